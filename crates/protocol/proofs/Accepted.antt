@@ -1,0 +1,227 @@
+-- What an accepted file is: its records are read as `Prefix` says, its skips stay inside, and the plan that it holds is sound.
+use Prim.Native.Nat.{ℕ, zero, suc, _+_, _*_, _%_, _<_, _≤_}
+use mathlib.Core.Bool.{Bool, true, false, cond, not, _&&_, _||_, true≢false, false≢true}
+use mathlib.Core.Path.{_≡_, refl, sym, ap, _∙_, subst, subst⁻¹}
+use mathlib.Core.List.{List, [], _∷_, _++_, map, append-assoc, append-nil}
+use mathlib.Core.Option.{none, some}
+use native.Mathlib.Omega.{arith}
+use native.Mathlib.Decide.{decLt}
+use lib.Dec.{leb, ltb, eqb}
+use lib.ListN.{length, getD, drop, length-map, List·getD-map, List·getD-eq-default}
+use borrow.Author.Tests.{ltb-false, eqb-true, eqb-false, not-false}
+use Rattle.protocol.specs.Format.{Record, planMark, known, rowIn, recordsFrom, recordCount, records, isBarrier, isStep, workersIn, stepsIn, Step, sync, exit, own, skipZero, skipNonzero, firstIn, sizeIn, barrierCount, countFrom, upTo, planIn, planOf}
+use Rattle.protocol.specs.Refusals.{Rule, Verdict, accepted, ruled, holds, refuseIf, badMark, badPlan, badLength, outside, lengthRule, planRule, laterRule, recordRule, skipTooFar, skipRule, checkSkips, checkRecords, check}
+use Rattle.protocol.specs.Steps.{stepsOf, stepAt}
+use Rattle.protocol.specs.Turns.{workersOf}
+use Rattle.protocol.proofs.Records.{one, or-left, or-right, and-left, and-right, first-unopened, first-inside}
+use Rattle.protocol.proofs.Taken.{passes}
+use Rattle.protocol.proofs.Tabled.{stepOp, skipLength, isSkip, step-op, step-skip}
+use Rattle.protocol.proofs.Sound.{Sound}
+use Rattle.protocol.proofs.Prefix.{blank, Read, read-first, read-more}
+
+-- a verdict that accepts: the rule holds, and so does what comes after it
+pub accepts : (rule : Rule) (i : ℕ) (next : Verdict) → ruled rule i next ≡ accepted → (rule ≡ holds) × (next ≡ accepted)
+accepts none i next e = (refl, e)
+accepts (some f) i next e = let z : _≡_ {A = ℕ} 0 1 = cc in absurd (omega arith)
+
+pub record Whole (rs : List Record) : Type 0 where
+  pub read : Read rs
+  pub skips : checkSkips 0 rs ≡ accepted
+
+all-read : (q : Record) (qs rest : List Record) → Read (q ∷ qs) → checkRecords (q ∷ qs) rest ≡ accepted → Whole ((q ∷ qs) ++ rest)
+unfolding checkRecords recordRule
+all-read q qs [] read e =
+    subst⁻¹ Whole (append-nil (q ∷ qs)) (record { read = read; skips = e })
+all-read q qs (r ∷ rest) read e =
+    let t = accepts (recordRule (q ∷ qs) r) (length (q ∷ qs)) (checkRecords ((q ∷ qs) ++ one r) rest) e in
+    let later = passes (not (eqb (r .mark) planMark)) badMark (laterRule (q ∷ qs) r) (t .0) .1 in
+    subst Whole (append-assoc (q ∷ qs) (one r) rest)
+    (all-read q (qs ++ one r) rest (read-more q qs r read later) (t .1))
+
+pub record PlanRecord (r : Record) : Type 0 where
+  pub op : r .op ≡ 0
+  pub least : 1 ≤ r .worker
+  pub most : r .worker ≤ 8
+
+plan-record : (r : Record) → planRule r ≡ holds → PlanRecord r
+unfolding planRule
+plan-record r e =
+    let size = outside 1 8 (r .worker) in
+    let t = passes (not (eqb (r .op) 0) || size || not (eqb (r .register) 0) || not (eqb (r .number) 0)) badPlan holds e .0 in
+    let t₁ = or-left (not (eqb (r .op) 0) || size || not (eqb (r .register) 0)) (not (eqb (r .number) 0)) t in
+    let t₂ = or-left (not (eqb (r .op) 0) || size) (not (eqb (r .register) 0)) t₁ in
+    let t₃ = or-right (not (eqb (r .op) 0)) t₂ in
+    record {
+      op = eqb-true (r .op) 0 (not-false _ (or-left (not (eqb (r .op) 0)) size t₂));
+      least = ltb-false _ _ (or-left (ltb (r .worker) 1) (ltb 8 (r .worker)) t₃);
+      most = ltb-false _ _ (or-right (ltb (r .worker) 1) t₃);
+    }
+
+-- the rule of each skip holds, with the records behind it
+skips-hold : (rs : List Record) (i k : ℕ) → checkSkips i rs ≡ accepted → k < length rs → skipRule (getD rs k blank) (drop (suc k) rs) ≡ holds
+unfolding checkSkips
+skips-hold [] i k e h = absurd (omega arith)
+skips-hold (r ∷ rs) i zero e h = accepts (skipRule r rs) i (checkSkips (suc i) rs) e .0
+skips-hold (r ∷ rs) i (suc k) e h = skips-hold rs (suc i) k (accepts (skipRule r rs) i (checkSkips (suc i) rs) e .1) (omega arith)
+
+-- An accepted file's records.
+pub record Accepted (rs : List Record) : Type 0 where
+  pub least : 1 ≤ workersIn rs
+  pub most : workersIn rs ≤ 8
+  pub read : Read rs
+  pub skips : (k : ℕ) → k < length rs → skipRule (getD rs k blank) (drop (suc k) rs) ≡ holds
+
+accepted-records : (rs : List Record) → (length rs ≡ 0 → ⊥) → checkRecords [] rs ≡ accepted → Accepted rs
+unfolding checkRecords recordRule known rowIn
+accepted-records [] n e = absurd (n refl)
+accepted-records (r ∷ rest) n e =
+    let t = accepts (recordRule [] r) 0 (checkRecords (one r) rest) e in
+    let p = plan-record r (passes (not (eqb (r .mark) planMark)) badMark (planRule r) (t .0) .1) in
+    let w = all-read r [] rest (read-first r (ap (λ (o : ℕ). eqb o 1) (p .op)) (ap known (p .op))) (t .1) in
+    record {
+      least = p .least;
+      most = p .most;
+      read = w .read;
+      skips = λ k h. skips-hold (r ∷ rest) 0 k (w .skips) h;
+    }
+
+pub record Length (file : List ℕ) : Type 0 where
+  pub some : 1 ≤ recordCount file
+  pub most : recordCount file ≤ 1033
+  pub bytes : length file ≡ 7 * recordCount file
+
+length-right : (file : List ℕ) → lengthRule (length file) ≡ holds → Length file
+unfolding lengthRule recordCount
+length-right file e =
+    let t = passes (eqb (length file) 0 || not (eqb (length file % 7) 0) || ltb 7231 (length file)) badLength holds e .0 in
+    let t₁ = or-left (eqb (length file) 0 || not (eqb (length file % 7) 0)) (ltb 7231 (length file)) t in
+    let z = eqb-false (length file) 0 (or-left (eqb (length file) 0) (not (eqb (length file % 7) 0)) t₁) in
+    let m = eqb-true (length file % 7) 0 (not-false _ (or-right (eqb (length file) 0) t₁)) in
+    let l = ltb-false 7231 (length file) (or-right (eqb (length file) 0 || not (eqb (length file % 7) 0)) t) in
+    record { some = omega arith; most = omega arith; bytes = omega arith }
+
+length-recordsFrom : (file : List ℕ) (k i : ℕ) → length (recordsFrom file k i) ≡ k
+unfolding recordsFrom
+length-recordsFrom file zero i = refl
+length-recordsFrom file (suc k) i = ap suc (length-recordsFrom file k (suc i))
+
+pub length-records : (file : List ℕ) → length (records file) ≡ recordCount file
+unfolding records
+length-records file = length-recordsFrom file (recordCount file) 0
+
+-- An accepted file.
+pub record AcceptedFile (file : List ℕ) : Type 0 where
+  pub size : Length file
+  pub records : Accepted (records file)
+
+pub accepted-file : (file : List ℕ) → check file ≡ accepted → AcceptedFile file
+unfolding check
+accepted-file file e =
+    let t = accepts (lengthRule (length file)) 0 (checkRecords [] (records file)) e in
+    let l = length-right file (t .0) in
+    record {
+      size = l;
+      records = accepted-records (records file) (λ z. let n = length-records file in let s = l .some in omega arith) (t .1);
+    }
+
+-- The plan that they hold.
+length-countFrom : (k i : ℕ) → length (countFrom k i) ≡ k
+unfolding countFrom
+length-countFrom zero i = refl
+length-countFrom (suc k) i = ap suc (length-countFrom k (suc i))
+
+getD-countFrom : (k i j d : ℕ) → j < k → getD (countFrom k i) j d ≡ i + j
+unfolding countFrom
+getD-countFrom zero i j d h = absurd (omega arith)
+getD-countFrom (suc k) i zero d h = omega arith
+getD-countFrom (suc k) i (suc j) d h = getD-countFrom k (suc i) j d (omega arith) ∙ omega arith
+
+getD-any : {A : Type 0} (l : List A) (i : ℕ) (d e : A) → i < length l → getD l i d ≡ getD l i e
+getD-any [] i d e h = absurd (omega arith)
+getD-any (x ∷ l) zero d e h = refl
+getD-any (x ∷ l) (suc i) d e h = getD-any l i d e (omega arith)
+
+-- what a plan's list has at a number below its length
+mapped : {A : Type 0} (f : ℕ → A) (k i : ℕ) (d : A) → i < k → getD (map f (upTo k)) i d ≡ f i
+mapped f k i d h =
+    getD-any (map f (upTo k)) i d (f 0) (let e = length-map (upTo k) f ∙ length-countFrom k 0 in omega arith)
+    ∙ (List·getD-map f (upTo k) i 0 ∙ ap f (getD-countFrom k 0 i 0 h ∙ omega arith))
+
+module _ (rs : List Record) (a : Accepted rs) where
+  pub workers-of : workersOf (planIn rs) ≡ workersIn rs
+  unfolding planIn
+  workers-of = length-map (upTo (workersIn rs)) (λ w. stepsIn rs w) ∙ length-countFrom (workersIn rs) 0
+
+  no-more : (w : ℕ) → workersIn rs ≤ w → stepsIn rs w ≡ []
+  no-more w h =
+      let o = a .read .opened in
+      let f₁ = first-unopened rs w (omega arith) in
+      let f₂ = first-unopened rs (suc w) (omega arith) in
+      empty (stepsIn rs w) (let t = a .read .together w in omega arith)
+    where
+      empty : (ss : List Step) → length ss ≡ 0 → ss ≡ []
+      empty [] e = refl
+      empty (x ∷ ss) e = absurd (omega arith)
+
+  pub steps-of : (w : ℕ) → stepsOf (planIn rs) w ≡ stepsIn rs w
+  unfolding planIn
+  steps-of w = elim (decLt w (workersIn rs)) [
+    | yes h ↦ mapped (λ v. stepsIn rs v) (workersIn rs) w [] h
+    | no h ↦ List·getD-eq-default (planIn rs .steps) [] (let e = workers-of in omega arith) ∙ sym (no-more w (omega arith))
+  ]
+
+  pub size-of : (b : ℕ) → b < barrierCount → getD (planIn rs .sizes) b 0 ≡ sizeIn rs b
+  unfolding planIn
+  size-of b h = mapped (λ c. sizeIn rs c) barrierCount b 0 h
+
+  -- a skip leaves its worker's steps just behind the last at the most
+  skip-inside : (w k : ℕ) → k < length (stepsIn rs w) → isSkip (stepOp (getD (stepsIn rs w) k (sync exit))) ≡ true
+      → k + 1 + skipLength (getD (stepsIn rs w) k (sync exit)) ≤ length (stepsIn rs w)
+  unfolding skipRule
+  skip-inside w k h e =
+      let s = a .read .placed w k h in
+      let r = getD rs (firstIn rs w + k) blank in
+      let left = length (stepsIn (drop (suc (firstIn rs w + k)) rs) (r .worker)) in
+      let step = and-left (isStep r) (eqb (r .worker) w) (s .ofWorker) in
+      let own = eqb-true (r .worker) w (and-right (isStep r) (eqb (r .worker) w) (s .ofWorker)) in
+      let op = ap stepOp (s .step) ∙ step-op r step in
+      let skips : isSkip (r .op) ≡ true = subst (λ (o : ℕ). isSkip o ≡ true) op e in
+      let far : skipLength (getD (stepsIn rs w) k (sync exit)) ≡ r .number
+      = ap skipLength (s .step) ∙ (step-skip r step ∙ ap (λ (b : Bool). cond b (r .number) 0) skips) in
+      let at : firstIn rs w + k < length rs = let t = a .read .together w in let i = first-inside rs (suc w) in omega arith in
+      let rule = passes (isSkip (r .op) && ltb left (r .number)) skipTooFar holds (a .skips (firstIn rs w + k) at) .0 in
+      let enough : r .number ≤ left
+      = ltb-false left (r .number) (sym (ap (λ (b : Bool). b && ltb left (r .number)) skips) ∙ rule) in
+      let same = ap (λ (v : ℕ). length (stepsIn (drop (suc (firstIn rs w + k)) rs) v)) own in
+      let behind = s .behind in
+      omega arith
+
+  skip-sound : (w k : ℕ) (s : Step) → isSkip (stepOp s) ≡ true → stepAt (planIn rs) w k ≡ s
+      → k + 1 + skipLength s ≤ length (stepsOf (planIn rs) w)
+  skip-sound w k s skips e =
+      let same = steps-of w in
+      let at : getD (stepsIn rs w) k (sync exit) ≡ s = ap (λ (ss : List Step). getD ss k (sync exit)) (sym same) ∙ e in
+      let h : k < length (stepsIn rs w)
+      = elim (decLt k (length (stepsIn rs w))) [
+        | yes l ↦ l
+        | no l ↦
+            let out = List·getD-eq-default (stepsIn rs w) (sync exit) {n = k} (omega arith) in
+            absurd (false≢true (ap (λ (s : Step). isSkip (stepOp s)) (sym out ∙ at) ∙ skips))
+      ] in
+      let inside = skip-inside w k h (ap (λ (s : Step). isSkip (stepOp s)) at ∙ skips) in
+      let far = ap skipLength at in
+      let size = ap length same in
+      omega arith
+
+  pub sound : Sound (planIn rs)
+  sound =
+      record {
+        workers = let e = workers-of in let h = a .most in omega arith;
+        lengths = λ w. let e = ap length (steps-of w) in let h = a .read .few w in omega arith;
+        skipsZero = λ w k r j e. skip-sound w k (own (skipZero r j)) refl e;
+        skipsNonzero = λ w k r j e. skip-sound w k (own (skipNonzero r j)) refl e;
+      }
+
+-- An accepted file holds a sound plan.
+pub sound-file : (file : List ℕ) → check file ≡ accepted → Sound (planOf file)
+sound-file file e = sound (records file) (accepted-file file e .records)

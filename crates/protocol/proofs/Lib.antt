@@ -1,0 +1,21 @@
+-- The plan file: what an accepted one is.
+pub mod Records
+pub mod Taken
+pub mod Prefix
+pub mod Tabled
+pub mod Sound
+pub mod Accepted
+-- Demand 3: a theorem about any machine, the laws of this one, the round-by-round run, and the claim on states and on bytes.
+pub mod Confluence
+pub mod Invariant
+pub mod Counting
+pub mod Fence
+pub mod OwnMoves
+pub mod Rulings
+pub mod Rules
+pub mod Laws
+pub mod Bounds
+pub mod ByRounds
+pub mod Demand3
+pub mod Bytes
+pub mod Cases

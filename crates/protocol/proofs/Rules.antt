@@ -1,0 +1,184 @@
+-- Every rule of Rounds is lawful.
+use Prim.Native.Nat.{ℕ, _+_, _-_, _<_, _≤_}
+use native.Mathlib.Omega.{arith}
+use mathlib.Core.Bool.{Bool, true, false, cond, not}
+use mathlib.Core.Path.{_≡_, refl, sym, ap, _∙_}
+use mathlib.Core.List.{List, [], _∷_}
+use lib.Dec.{eqb, ltb}
+use lib.ListN.{length, getD}
+use Rattle.protocol.specs.Format.{Sync, lock, unlock, wait, signal, broadcast, barrier, exit, sync, Plan}
+use Rattle.protocol.specs.Steps.{Queue, onCondition, atBarrier, Fate, going, exited, failed, waiting, stepsOf, stepAt}
+use Rattle.protocol.specs.Rounds.{State, workerAt, waitsOn, keep, queueOf, Bytes, committed, lost, Goes, keeps, gives, leaves, ruling, failure, givesAtZero, commitsAtZero, lockRule, unlockRule, waitRule, signalRule, barrierRule, exitRule, ruleOf, fateAfter, hasArrived}
+use Rattle.protocol.specs.Demands.{occurs}
+use Rattle.protocol.proofs.Invariant.{runs, gone, Core}
+use Rattle.protocol.proofs.Counting.{clash, occurs-empty, occurs-first, occurs-kept, occurs-dropped}
+use Rattle.protocol.proofs.OwnMoves.{Listed, inside-steps}
+use Rattle.protocol.proofs.Rulings.{Leaving, Lawful}
+
+-- the queue of a condition or a barrier is a part of the waiting list, and all in it have arrived as it asks
+
+queue-counts : (s : State) (q : Queue) (w : ℕ) → occurs w (queueOf s q) ≤ occurs w (s .waiting)
+unfolding queueOf
+queue-counts s q w = go (waitsOn q (workerAt s w .fate)) refl
+  where
+    go : (b : Bool) → waitsOn q (workerAt s w .fate) ≡ b → occurs w (keep (λ w. waitsOn q (workerAt s w .fate)) (s .waiting)) ≤ occurs w (s .waiting)
+    go true p = omega (arith, occurs-kept (λ w. waitsOn q (workerAt s w .fate)) w (s .waiting) p)
+    go false p = omega (arith, occurs-dropped (λ w. waitsOn q (workerAt s w .fate)) w (s .waiting) p)
+
+queue-waits : (s : State) (q : Queue) (w : ℕ) → 0 < occurs w (queueOf s q) → waitsOn q (workerAt s w .fate) ≡ true
+unfolding queueOf
+queue-waits s q w l = go (waitsOn q (workerAt s w .fate)) refl
+  where
+    go : (b : Bool) → waitsOn q (workerAt s w .fate) ≡ b → b ≡ true
+    go true p = refl
+    go false p = absurd (omega (arith, occurs-dropped (λ w. waitsOn q (workerAt s w .fate)) w (s .waiting) p))
+
+waits-runs : (q : Queue) (f : Fate) → waitsOn q f ≡ true → runs f ≡ 0
+waits-runs q going e = clash e
+waits-runs q exited e = refl
+waits-runs q failed e = refl
+waits-runs q (waiting p) e = refl
+
+waits-arrived : (q : Queue) (f : Fate) → waitsOn q f ≡ true → hasArrived f ≡ hasArrived (waiting q)
+waits-arrived q going e = clash e
+waits-arrived q exited e = clash e
+waits-arrived q failed e = clash e
+waits-arrived (onCondition c) (waiting (onCondition d)) e = refl
+waits-arrived (onCondition c) (waiting (atBarrier d)) e = clash e
+waits-arrived (atBarrier c) (waiting (onCondition d)) e = clash e
+waits-arrived (atBarrier c) (waiting (atBarrier d)) e = refl
+
+pub queue-arrived : (plan : Plan) (s : State) (q : Queue) (w : ℕ) → Core plan s → 0 < occurs w (queueOf s q)
+    → workerAt s w .arrived ≡ hasArrived (waiting q)
+queue-arrived plan s q w c l =
+    let e : waitsOn q (workerAt s w .fate) ≡ true = queue-waits s q w l in
+    c .sane w .still (waits-runs q (workerAt s w .fate) e) ∙ waits-arrived q (workerAt s w .fate) e
+
+-- the rules
+
+module _ (plan : Plan) (s : State) (h : ℕ) (c : Core plan s) (l : Listed plan s h) where
+  -- a rule that moves nobody but the holder
+  quiet : (b : Bytes) (k : ℕ) (g : Goes) (o : ℕ) → k ≤ workerAt s h .place + 1 → k ≤ length (stepsOf plan h)
+      → workerAt s h .place + 1 ≤ length (stepsOf plan h) + gone (fateAfter g) → Leaving g → Lawful plan s h (ruling b k g [] [] o)
+  quiet b k g o p q t lv =
+      record {
+        out = λ w. omega (arith, occurs-empty w);
+        woken = λ w z. absurd (omega (arith, occurs-empty w));
+        joined = λ w z. absurd (omega (arith, occurs-empty w));
+        heldPlace = p;
+        heldSteps = q;
+        within = t;
+        leaving = lv;
+      }
+
+  fails : Lawful plan s h (failure (workerAt s h .held))
+  fails =
+      quiet lost (workerAt s h .held) (leaves failed) 254 (omega (arith, c .sane h .heldPlace)) (c .sane h .heldSteps) (omega (arith, l .place)) refl
+
+  exits : Lawful plan s h (exitRule (workerAt s h .held))
+  exits = go (not (eqb (workerAt s h .held) 0))
+    where
+      go : (b : Bool)
+          → Lawful plan s h (cond b (failure (workerAt s h .held)) (ruling committed (workerAt s h .held) (leaves exited) [] [] 255))
+      go true = fails
+      go false =
+          quiet committed (workerAt s h .held) (leaves exited) 255 (omega (arith, c .sane h .heldPlace)) (c .sane h .heldSteps) (omega (arith, l .place)) refl
+
+  -- all but the exit stand inside the steps
+  module _ (i : workerAt s h .place < length (stepsOf plan h)) where
+    locks : Lawful plan s h (lockRule (workerAt s h .held))
+    locks = quiet _ _ keeps _ (omega (arith, c .sane h .heldPlace)) (omega (arith, c .sane h .heldPlace)) (omega arith) tt
+
+    gives-or-keeps : (b : Bool) → (gone (fateAfter (cond b gives keeps)) ≡ 0) × Leaving (cond b gives keeps)
+    gives-or-keeps true = (refl, tt)
+    gives-or-keeps false = (refl, tt)
+
+    unlocks : Lawful plan s h (unlockRule (workerAt s h .held))
+    unlocks = go (eqb (workerAt s h .held) 0)
+      where
+        k : ℕ
+        k = workerAt s h .held - 1
+
+        go : (b : Bool) → Lawful plan s h (cond b (failure (workerAt s h .held)) (ruling (commitsAtZero k) k (givesAtZero k) [] [] k))
+        go true = fails
+        go false =
+            quiet _ _ (givesAtZero k) _ (omega (arith, c .sane h .heldPlace)) (omega (arith, c .sane h .heldSteps))
+            (omega (arith, gives-or-keeps (eqb k 0) .0)) (gives-or-keeps (eqb k 0) .1)
+
+    waits-on : (q : ℕ) → Lawful plan s h (waitRule q (workerAt s h .held))
+    waits-on q = go (eqb (workerAt s h .held) 0)
+      where
+        go : (b : Bool) → Lawful plan s h (cond b (failure (workerAt s h .held)) (ruling committed (workerAt s h .held) (leaves (waiting (onCondition q))) [] [] 255))
+        go true = fails
+        go false = quiet _ _ (leaves (waiting (onCondition q))) _ (omega (arith, c .sane h .heldPlace)) (c .sane h .heldSteps) (omega arith) refl
+
+    signals : (q : ℕ) → Lawful plan s h (signalRule (queueOf s (onCondition q)) (workerAt s h .held))
+    signals q = go (queueOf s (onCondition q)) refl
+      where
+        k : ℕ
+        k = workerAt s h .held
+
+        go : (ws : List ℕ) → queueOf s (onCondition q) ≡ ws → Lawful plan s h (signalRule ws k)
+        go [] e = quiet _ _ (givesAtZero k) _ (omega (arith, c .sane h .heldPlace)) (c .sane h .heldSteps) (omega (arith, gives-or-keeps (eqb k 0) .0)) (gives-or-keeps (eqb k 0) .1)
+        go (x ∷ xs) e =
+            record {
+              out = λ w. omega (arith, occurs-first w x xs, rw e at (queue-counts s (onCondition q) w));
+              woken = λ w z. queue-arrived plan s (onCondition q) w c (rw e (omega (arith, occurs-first w x xs)));
+              joined = λ w z. absurd (omega (arith, occurs-empty w));
+              heldPlace = omega (arith, c .sane h .heldPlace);
+              heldSteps = c .sane h .heldSteps;
+              within = omega (arith, gives-or-keeps (eqb k 0) .0);
+              leaving = gives-or-keeps (eqb k 0) .1;
+            }
+
+    meets : (b : ℕ) (size : ℕ) → Lawful plan s h (barrierRule b size (queueOf s (atBarrier b)) (workerAt s h .held))
+    meets b size = go (not (eqb (workerAt s h .held) 0)) (ltb (length (queueOf s (atBarrier b))) (size - 1))
+      where
+        k : ℕ
+        k = workerAt s h .held
+
+        go : (n t : Bool) → Lawful plan s h (cond n (failure k)
+            (cond t (ruling committed k (leaves (waiting (atBarrier b))) [] [] 0) (ruling committed k gives [] (queueOf s (atBarrier b)) size)))
+        go true t = fails
+        go false true = quiet _ _ (leaves (waiting (atBarrier b))) _ (omega (arith, c .sane h .heldPlace)) (c .sane h .heldSteps) (omega arith) refl
+        go false false =
+            record {
+              out = λ w. queue-counts s (atBarrier b) w;
+              woken = λ w z. absurd (omega (arith, occurs-empty w));
+              joined = λ w z. queue-arrived plan s (atBarrier b) w c z;
+              heldPlace = omega (arith, c .sane h .heldPlace);
+              heldSteps = c .sane h .heldSteps;
+              within = omega arith;
+              leaving = tt;
+            }
+
+-- a step record's step: the end acts as the exit
+abbrev isReal : Sync → Bool
+isReal (lock k) = true
+isReal (unlock k) = true
+isReal (wait q) = true
+isReal (signal q) = true
+isReal (broadcast q) = true
+isReal (barrier b) = true
+isReal exit = false
+
+real-inside : (plan : Plan) (w k : ℕ) (y : Sync) → isReal y ≡ true → stepAt plan w k ≡ sync y → k < length (stepsOf plan w)
+real-inside plan w k y r e =
+    inside-steps plan w k λ x. let z : y ≡ exit = cc in clash (sym (ap isReal z) ∙ r)
+
+pub rule-lawful : (plan : Plan) (s : State) (h : ℕ) (y : Sync) → Core plan s → Listed plan s h → stepAt plan h (workerAt s h .place) ≡ sync y
+    → Lawful plan s h (ruleOf plan (queueOf s) (workerAt s h .held) y)
+unfolding ruleOf
+rule-lawful plan s h y c l e = go y e
+  where
+    k : ℕ
+    k = workerAt s h .place
+
+    go : (y : Sync) → stepAt plan h (workerAt s h .place) ≡ sync y → Lawful plan s h (ruleOf plan (queueOf s) (workerAt s h .held) y)
+    go (lock n) e = locks plan s h c l (real-inside plan h k (lock n) refl e)
+    go (unlock n) e = unlocks plan s h c l (real-inside plan h k (unlock n) refl e)
+    go (wait q) e = waits-on plan s h c l (real-inside plan h k (wait q) refl e) q
+    go (signal q) e = signals plan s h c l (real-inside plan h k (signal q) refl e) q
+    go (broadcast q) e = signals plan s h c l (real-inside plan h k (broadcast q) refl e) q
+    go (barrier b) e = meets plan s h c l (real-inside plan h k (barrier b) refl e) b (getD (plan .sizes) b 0)
+    go exit e = exits plan s h c l

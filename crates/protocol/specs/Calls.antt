@@ -1,0 +1,86 @@
+-- Document 01, "Calls and buffers": what the two host calls return, and what a run leaves in the buffers lent to it.
+use Prim.Native.Nat.{ℕ, _-_, _*_}
+use mathlib.Core.Bool.{Bool, false, not, _||_}
+use mathlib.Core.List.{List, [], _∷_, _++_}
+use lib.Dec.{leb, ltb, eqb}
+use lib.ListN.{length, replicate}
+use Rattle.protocol.specs.Format.{Plan, planOf}
+use Rattle.protocol.specs.Refusals.{Verdict, accepted, refused, codeOf, badBuffer, tooManyTurns, badTurn, holds, refuseIf, ruled, check}
+use Rattle.protocol.specs.Rounds.{State}
+use Rattle.protocol.specs.Turns.{workersOf, start, play}
+use Rattle.protocol.specs.Report.{logBytes, reportBytes}
+
+-- "Lent to a run: memory 2,048 bytes, log 8,256, report 16, work 32,768."
+abbrev pub memorySize : ℕ
+memorySize = 2048
+
+abbrev pub logSize : ℕ
+logSize = 8256
+
+abbrev pub reportSize : ℕ
+reportSize = 16
+
+abbrev pub workSize : ℕ
+workSize = 32768
+
+abbrev pub turnLimit : ℕ
+turnLimit = 65535
+
+pub record Buffers : Type 0 where
+  pub memory : List ℕ
+  pub log : List ℕ
+  pub report : List ℕ
+  pub work : List ℕ
+
+-- what a call returns, and the buffers as it leaves them
+pub record Outcome : Type 0 where
+  pub returned : ℕ
+  pub buffers : Buffers
+
+-- "One call checks a file": "refusal + 256 × index. An accepted call returns 0"
+abbrev pub checkCode : List ℕ → ℕ
+checkCode file = codeOf (check file)
+
+-- "11, a lent buffer of another length"
+abbrev pub misfit : Buffers → Bool
+misfit b =
+    not (eqb (length (b .memory)) memorySize)
+    || not (eqb (length (b .log)) logSize)
+    || not (eqb (length (b .report)) reportSize)
+    || not (eqb (length (b .work)) workSize)
+
+-- "13, a turn naming a worker not below n"
+unfoldable pub strays : ℕ → List ℕ → Bool
+strays n [] = false
+strays n (w ∷ ws) = leb n w || strays n ws
+
+abbrev pub both : Verdict → Verdict → Verdict
+both accepted next = next
+both (refused f i) next = refused f i
+
+-- "A run tests 11, 12, then the file, then 13."
+unfoldable pub runVerdict : List ℕ → List ℕ → Buffers → Verdict
+runVerdict file turns b =
+    ruled (refuseIf (misfit b) badBuffer holds) 0
+    (ruled (refuseIf (ltb turnLimit (length turns)) tooManyTurns holds) 0
+    (both (check file)
+    (ruled (refuseIf (strays (workersOf (planOf file)) turns) badTurn holds) 0 accepted)))
+
+-- "After an accepted run memory is the shared memory, the log's rest is zero, work is all zero."
+unfoldable pub lentLog : State → List ℕ
+lentLog s = logBytes (s .log) ++ replicate (logSize - length (logBytes (s .log))) 0
+
+abbrev pub buffersOf : State → Buffers
+buffersOf s = record { memory = s .memory; log = lentLog s; report = reportBytes s; work = replicate workSize 0 }
+
+-- the state that a list of turns leaves, from the lent memory
+abbrev pub playedFrom : Plan → List ℕ → List ℕ → State
+playedFrom plan memory turns = play plan (start plan memory) turns
+
+-- "A refusal returns its number and a record index ..; no lent byte changes."
+abbrev pub outcomeOf : Verdict → State → Buffers → Outcome
+outcomeOf accepted s b = record { returned = 0; buffers = buffersOf s }
+outcomeOf (refused f i) s b = record { returned = codeOf (refused f i); buffers = b }
+
+unfoldable pub run : List ℕ → List ℕ → Buffers → Outcome
+run file turns b = outcomeOf (runVerdict file turns b) (playedFrom (planOf file) (b .memory) turns) b

@@ -1,0 +1,142 @@
+-- Document 01, "Plans to check against": cases 1 to 10 as one table, each with the bytes that it leaves, worked out by hand.
+use Prim.Native.Nat.{ℕ, zero, suc, _-_, _/_, _%_}
+use mathlib.Core.List.{List, [], _∷_, _++_}
+use lib.ListN.{length, replicate}
+use Rattle.protocol.specs.Format.{Plan, planOf, upTo}
+use Rattle.protocol.specs.Turns.{workersOf}
+use Rattle.protocol.specs.RoundRun.{moveLimit, roundRun}
+use Rattle.protocol.specs.Calls.{memorySize, logSize, reportSize, workSize, Buffers, Outcome, buffersOf, run}
+
+-- "Turns are the listing program's, save in case 10." That has no turns.
+pub data Fed : Type 0 where
+  listing nothing : Fed
+
+pub record Case : Type 0 where
+  pub file : List ℕ
+  -- the first bytes of the starting memory, zeros behind them
+  pub lent : List ℕ
+  pub fed : Fed
+  -- the first bytes of memory in the end, zeros behind them
+  pub memory : List ℕ
+  pub log : List ℕ
+  pub report : List ℕ
+
+-- the listing program's turns: "2 × (steps + n) cycles 0 .. n−1"
+unfoldable pub cycles : ℕ → ℕ → List ℕ
+cycles n zero = []
+cycles n (suc k) = upTo n ++ cycles n k
+
+unfoldable pub turnsOf : Case → List ℕ
+turnsOf c = elim (c .fed) [ listing ↦ cycles (workersOf (planOf (c .file))) (moveLimit (planOf (c .file))) | nothing ↦ [] ]
+
+-- bytes, then zeros
+unfoldable pub padded : ℕ → List ℕ → List ℕ
+padded size bytes = bytes ++ replicate (size - length bytes) 0
+
+-- the buffers as lent: what log, report and work hold at first does not matter
+unfoldable pub lentTo : Case → Buffers
+lentTo c =
+    record {
+      memory = padded memorySize (c .lent);
+      log = replicate logSize 170;
+      report = replicate reportSize 170;
+      work = replicate workSize 170;
+    }
+
+-- What the definitions yield: by turns and, where the plan runs to its end, by the round-by-round run.
+unfoldable pub yields : Case → List Outcome
+yields c =
+    run (c .file) (turnsOf c) (lentTo c)
+    ∷ elim (c .fed) [
+      | listing ↦ record { returned = 0; buffers = buffersOf (roundRun (planOf (c .file)) (lentTo c .memory)) } ∷ []
+      | nothing ↦ []
+    ]
+
+unfoldable pub expected : Case → Outcome
+expected c =
+    record {
+      returned = 0;
+      buffers =
+          record { memory = padded memorySize (c .memory); log = padded logSize (c .log); report = c .report; work = replicate workSize 0 };
+    }
+
+unfoldable pub expects : Case → List Outcome
+expects c = expected c ∷ elim (c .fed) [ listing ↦ expected c ∷ [] | nothing ↦ [] ]
+
+-- a record of a plan file
+abbrev rec : ℕ → ℕ → ℕ → ℕ → List ℕ
+rec worker op register number = 0x4D ∷ 0x50 ∷ worker ∷ op ∷ register ∷ number % 256 ∷ number / 256 ∷ []
+
+abbrev planRec : ℕ → List ℕ
+planRec n = rec n 0 0 0
+
+-- a record of the log, in a round below 256
+abbrev entry : ℕ → ℕ → ℕ → ℕ → ℕ → List ℕ
+entry round worker op number outcome = 0x4D ∷ 0x4C ∷ round ∷ 0 ∷ worker ∷ op ∷ number ∷ outcome ∷ []
+
+-- the report, its two-byte numbers being below 256
+abbrev report : ℕ → ℕ → ℕ → ℕ → ℕ → List ℕ → List ℕ
+report end n moves rounds records fates = end ∷ n ∷ moves ∷ 0 ∷ rounds ∷ 0 ∷ records ∷ 0 ∷ fates
+
+-- the fates of two workers, and of one
+abbrev both : ℕ → ℕ → List ℕ
+both f g = f ∷ g ∷ replicate 6 255
+
+abbrev one : ℕ → List ℕ
+one f = f ∷ replicate 7 255
+
+-- both workers exit in one round
+abbrev exits : ℕ → List ℕ
+exits round = entry round 0 38 0 255 ++ entry round 1 38 0 255
+
+-- "Worker 0: load r0 from 2; skip 2 if r0 not zero; set r1 to 1; store r1 at 0. Worker 1: the same with addresses 0 and 2 exchanged."
+abbrev racer : ℕ → ℕ → ℕ → List ℕ
+racer w from to = rec w 17 0 from ++ rec w 22 0 2 ++ rec w 16 1 1 ++ rec w 18 1 to
+
+abbrev race : List ℕ
+race = planRec 2 ++ racer 0 2 0 ++ racer 1 0 2
+
+-- set a register to a number and store it at 0
+abbrev stores : ℕ → ℕ → List ℕ
+stores w number = rec w 16 0 number ++ rec w 18 0 0
+
+-- add 1 at 0
+abbrev adds : ℕ → List ℕ
+adds w = rec w 17 0 0 ++ rec w 16 1 1 ++ rec w 19 0 1 ++ rec w 18 0 0
+
+abbrev locked : ℕ → List ℕ → List ℕ
+locked w steps = rec w 32 0 0 ++ steps ++ rec w 33 0 0
+
+abbrev case : List ℕ → List ℕ → Fed → List ℕ → List ℕ → List ℕ → Case
+case f l t m g r = record { file = f; lent = l; fed = t; memory = m; log = g; report = r }
+
+unfoldable pub cases : List Case
+cases =
+    -- 1, race: "At the end memory begins 01 00 01 00." "1 0 38 0 255", "1 1 38 0 255", "finished 12"
+    case race [] listing (1 ∷ 0 ∷ 1 ∷ 0 ∷ []) (exits 1) (report 1 2 12 1 2 (both 1 1))
+    -- 2: "Worker 0 stores 256 at 0, worker 1 stores 1 there: 257."
+    ∷ case (planRec 2 ++ stores 0 256 ++ stores 1 1) [] listing (1 ∷ 1 ∷ []) (exits 1) (report 1 2 8 1 2 (both 1 1))
+    -- 3: "Address 0 holds 5; worker 0 stores 7, worker 1 stores 5: 7."
+    ∷ case (planRec 2 ++ stores 0 7 ++ stores 1 5) (5 ∷ []) listing (7 ∷ []) (exits 1) (report 1 2 8 1 2 (both 1 1))
+    -- 4: "Both lock, add 1 at 0, unlock: 2, six log records."
+    ∷ case (planRec 2 ++ locked 0 (adds 0) ++ locked 1 (adds 1)) [] listing (2 ∷ [])
+    (entry 1 0 32 0 1 ++ entry 1 0 33 0 0 ++ entry 1 1 32 0 1 ++ entry 1 1 33 0 0 ++ exits 2)
+    (report 1 2 18 2 6 (both 1 1))
+    -- 5: "The same without locks: 1."
+    ∷ case (planRec 2 ++ adds 0 ++ adds 1) [] listing (1 ∷ []) (exits 1) (report 1 2 12 1 2 (both 1 1))
+    -- 6: "One worker: lock, wait. Stuck, fate 3."
+    ∷ case (planRec 1 ++ rec 0 32 0 0 ++ rec 0 34 0 0) [] listing [] (entry 1 0 32 0 1 ++ entry 1 0 34 0 255) (report 2 1 3 1 2 (one 3))
+    -- 7: "One worker: store, unlock. Failed, memory unchanged, outcome 254." It stores a number that would show.
+    ∷ case (planRec 1 ++ stores 0 7 ++ rec 0 33 0 0) [] listing [] (entry 1 0 33 0 254) (report 1 1 4 1 1 (one 2))
+    -- 8: "Barrier size 2, two workers, barrier only: outcomes 0 and 2 in round 1."
+    ∷ case (planRec 2 ++ rec 0 1 0 2 ++ rec 0 37 0 0 ++ rec 1 37 0 0) [] listing []
+    (entry 1 0 37 0 0 ++ entry 1 1 37 0 2 ++ exits 2)
+    (report 1 2 8 2 4 (both 1 1))
+    -- 9: "Worker 0: lock, wait, unlock. Worker 1: lock, signal, unlock. Worker 0 unlocks in round 1; round 2 exits 1, then 0."
+    ∷ case (planRec 2 ++ locked 0 (rec 0 34 0 0) ++ locked 1 (rec 1 35 0 0)) [] listing []
+    (entry 1 0 32 0 1 ++ entry 1 0 34 0 255 ++ entry 1 1 32 0 1 ++ entry 1 1 35 0 0 ++ entry 1 1 33 0 0 ++ entry 1 0 33 0 0
+    ++ entry 2 1 38 0 255 ++ entry 2 0 38 0 255)
+    (report 1 2 12 2 8 (both 1 1))
+    -- 10: "The plan of case 1 with no turns: going, no log."
+    ∷ case race [] nothing [] [] (report 0 2 0 0 0 (both 0 0))
+    ∷ []

@@ -1,0 +1,63 @@
+-- Demand 3: the outcome does not hang on who moved first. What is claimed, of the definitions and of the bytes that a run leaves.
+use Prim.Native.Nat.{ℕ, zero, suc, _+_, _-_, _<_, _≤_}
+use mathlib.Core.Bool.{true, cond}
+use mathlib.Core.Path.{_≡_}
+use mathlib.Core.List.{List, [], _∷_, _++_}
+use lib.Dec.{eqb}
+use lib.ListN.{length, getD, replicate}
+use Rattle.protocol.specs.Format.{word, Plan}
+use Rattle.protocol.specs.Rounds.{Entry, State}
+use Rattle.protocol.specs.Turns.{workersOf, start, movingTurns, ended}
+use Rattle.protocol.specs.RoundRun.{moveLimit, roundRun}
+use Rattle.protocol.specs.Report.{logBytes}
+use Rattle.protocol.specs.Calls.{Buffers, buffersOf, logSize, playedFrom}
+
+-- "A whole cycle is n turns, one right behind the other, that name each of the n workers once"
+unfoldable pub occurs : ℕ → List ℕ → ℕ
+occurs w [] = 0
+occurs w (v ∷ vs) = cond (eqb w v) 1 0 + occurs w vs
+
+pub record Whole (n : ℕ) (cycle : List ℕ) : Type 0 where
+  pub turns : length cycle ≡ n
+  pub each : (w : ℕ) → w < n → occurs w cycle ≡ 1
+
+-- "cycles counted together share no turn": a list that holds k whole cycles, with any turns between them
+pub data Cycles (n : ℕ) : ℕ → List ℕ → Type 0 where
+  done : Cycles n zero []
+  other : {k : ℕ} {ts : List ℕ} (w : ℕ) → Cycles n k ts → Cycles n k (w ∷ ts)
+  cycle : {k : ℕ} {ts : List ℕ} (c us : List ℕ) → Whole n c → Cycles n k ts → us ≡ c ++ ts → Cycles n (suc k) us
+
+abbrev pub Prefix : {A : Type 0} → List A → List A → Type 0
+Prefix {A} xs ys = (rest : List A) × (ys ≡ xs ++ rest)
+
+-- "Demand 3 is a single claim about the whole list of turns, the empty list included": for a plan, a starting memory and a list of turns
+pub record Demand3 (plan : Plan) (memory turns : List ℕ) : Type 0 where
+  -- once the plan has ended, all that there is, memory, log and report among it, is what the round-by-round run leaves
+  pub sameEnd : ended (playedFrom plan memory turns) ≡ true → playedFrom plan memory turns ≡ roundRun plan memory
+  -- ended or not, the log is a prefix of the full log
+  pub logPrefix : Prefix (playedFrom plan memory turns .log) (roundRun plan memory .log)
+  -- the report's moving turns are the turns of the list that moved
+  pub movesCounted : playedFrom plan memory turns .moves ≡ movingTurns plan (start plan memory) turns
+  -- "None holds more than 2 × (steps + workers) turns that move"
+  pub movesBounded : movingTurns plan (start plan memory) turns ≤ moveLimit plan
+  -- that many whole cycles end the plan
+  pub cyclesEnd : Cycles (workersOf plan) (moveLimit plan) turns → ended (playedFrom plan memory turns) ≡ true
+  -- the round-by-round run ends, finished or stuck
+  pub roundRunEnds : ended (roundRun plan memory) ≡ true
+
+-- "where a run accepts the list, the claim holds of the bytes that the run leaves in memory, log and report": for the bytes left
+-- by an accepted call, from the starting memory
+pub record Demand3Bytes (plan : Plan) (memory turns : List ℕ) (left : Buffers) : Type 0 where
+  -- the report says ended: memory, log and report are those of the round-by-round run
+  pub sameEnd : (getD (left .report) 0 0 ≡ 0 → ⊥) → left ≡ buffersOf (roundRun plan memory)
+  -- the lent log holds so many records, a prefix of the full log's bytes, and then zeros
+  pub logPrefix :
+      (es : List Entry)
+      × Prefix es (roundRun plan memory .log)
+      × (left .log ≡ logBytes es ++ replicate (logSize - length (logBytes es)) 0)
+      × (word (getD (left .report) 6 0) (getD (left .report) 7 0) ≡ length es)
+  -- the report's moving turns are the turns of the list that moved, within the limit
+  pub movesCounted : word (getD (left .report) 2 0) (getD (left .report) 3 0) ≡ movingTurns plan (start plan memory) turns
+  pub movesBounded : movingTurns plan (start plan memory) turns ≤ moveLimit plan
+  -- that many whole cycles end the plan
+  pub cyclesEnd : Cycles (workersOf plan) (moveLimit plan) turns → getD (left .report) 0 0 ≡ 0 → ⊥

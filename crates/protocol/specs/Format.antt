@@ -1,0 +1,165 @@
+-- Document 01, "Plan file": records of 7 bytes, the table of steps, and the plan that a file holds.
+use Prim.Native.Nat.{ℕ, zero, suc, _+_, _*_, _/_}
+use mathlib.Core.Bool.{Bool, true, false, cond, _&&_}
+use mathlib.Core.List.{List, [], _∷_, map}
+use mathlib.Core.Option.{Option, none, some}
+use lib.Dec.{leb, eqb}
+use lib.ListN.{length, getD}
+
+-- "Two-byte numbers are low byte first."
+abbrev pub word : ℕ → ℕ → ℕ
+word low high = low + 256 * high
+
+-- "Records of 7 bytes: the mark 4D 50, worker, op, register (one byte each), number (two bytes)."
+abbrev pub recordWidth : ℕ
+recordWidth = 7
+
+abbrev pub planMark : ℕ
+planMark = word 0x4D 0x50
+
+pub record Record : Type 0 where
+  pub mark : ℕ
+  pub worker : ℕ
+  pub op : ℕ
+  pub register : ℕ
+  pub number : ℕ
+
+-- the record whose first byte stands at a position
+unfoldable pub recordFrom : List ℕ → ℕ → Record
+recordFrom file at =
+    record {
+      mark = word (getD file at 0) (getD file (at + 1) 0);
+      worker = getD file (at + 2) 0;
+      op = getD file (at + 3) 0;
+      register = getD file (at + 4) 0;
+      number = word (getD file (at + 5) 0) (getD file (at + 6) 0);
+    }
+
+-- so many records, the first of which has the given index
+unfoldable pub recordsFrom : List ℕ → ℕ → ℕ → List Record
+recordsFrom file zero i = []
+recordsFrom file (suc k) i = recordFrom file (recordWidth * i) ∷ recordsFrom file k (suc i)
+
+unfoldable pub recordCount : List ℕ → ℕ
+recordCount file = length file / recordWidth
+
+unfoldable pub records : List ℕ → List Record
+records file = recordsFrom file (recordCount file) 0
+
+-- The steps. Those below 32 are the worker's own, "ops 32 and up synchronise".
+-- A register comes first, then the table's number; of a synchronising step there is the number alone.
+pub data Own : Type 0 where
+  assign load store add subtract skipZero skipNonzero : ℕ → ℕ → Own
+
+pub data Sync : Type 0 where
+  lock unlock wait signal broadcast barrier : ℕ → Sync
+  exit : Sync
+
+pub data Step : Type 0 where
+  own : Own → Step
+  sync : Sync → Step
+
+-- A row of the paper's table: "op | step | register, number".
+-- The register is at most `registers`, the number from `least` to `most`.
+pub record Row : Type 0 where
+  pub op : ℕ
+  pub step : ℕ → ℕ → Step
+  pub registers : ℕ
+  pub least : ℕ
+  pub most : ℕ
+
+abbrev row : ℕ → (ℕ → ℕ → Step) → ℕ → ℕ → ℕ → Row
+row o s r l m = record { op = o; step = s; registers = r; least = l; most = m }
+
+abbrev ownRow : ℕ → (ℕ → ℕ → Own) → ℕ → ℕ → Row
+ownRow o s l m = row o (λ r k. own (s r k)) 3 l m
+
+abbrev syncRow : ℕ → (ℕ → Sync) → ℕ → Row
+syncRow o s m = row o (λ r k. sync (s k)) 0 0 m
+
+abbrev pub table : List Row
+table =
+    ownRow 16 assign 0 65535
+    ∷ ownRow 17 load 0 2046
+    ∷ ownRow 18 store 0 2046
+    ∷ ownRow 19 add 0 3
+    ∷ ownRow 20 subtract 0 3
+    ∷ ownRow 21 skipZero 1 127
+    ∷ ownRow 22 skipNonzero 1 127
+    ∷ syncRow 32 lock 15
+    ∷ syncRow 33 unlock 15
+    ∷ syncRow 34 wait 7
+    ∷ syncRow 35 signal 7
+    ∷ syncRow 36 broadcast 7
+    ∷ syncRow 37 barrier 7
+    ∷ syncRow 38 (λ k. exit) 0
+    ∷ []
+
+unfoldable pub rowIn : List Row → ℕ → Option Row
+rowIn [] o = none
+rowIn (x ∷ xs) o = cond (eqb (x .op) o) (some x) (rowIn xs o)
+
+abbrev pub rowOf : ℕ → Option Row
+rowOf o = rowIn table o
+
+-- What a file's records hold between them. A step record is one whose op has a row.
+unfoldable pub known : ℕ → Bool
+known o = elim (rowOf o) [ none ↦ false | some x ↦ true ]
+
+unfoldable pub stepOf : Record → Step
+stepOf r = elim (rowOf (r .op)) [ none ↦ sync exit | some x ↦ x .step (r .register) (r .number) ]
+
+abbrev pub isBarrier : Record → Bool
+isBarrier r = eqb (r .op) 1
+
+abbrev pub isStep : Record → Bool
+isStep r = known (r .op)
+
+abbrev pub isStepOf : ℕ → Record → Bool
+isStepOf w r = isStep r && eqb (r .worker) w
+
+-- "First the plan record: .. worker byte = count of workers n"
+abbrev pub workersIn : List Record → ℕ
+workersIn [] = 0
+workersIn (r ∷ rs) = r .worker
+
+-- the size that a barrier record gives, 0 where none does
+unfoldable pub sizeIn : List Record → ℕ → ℕ
+sizeIn [] b = 0
+sizeIn (r ∷ rs) b = cond (isBarrier r && eqb (r .register) b) (r .number) (sizeIn rs b)
+
+-- a worker's steps, in the file's order
+unfoldable pub stepsIn : List Record → ℕ → List Step
+stepsIn [] w = []
+stepsIn (r ∷ rs) w = cond (isStepOf w r) (stepOf r ∷ stepsIn rs w) (stepsIn rs w)
+
+-- the index of the first step of worker w or a later one, or the number of records where there is none
+unfoldable pub firstIn : List Record → ℕ → ℕ
+firstIn [] w = 0
+firstIn (r ∷ rs) w = cond (isStep r && leb w (r .worker)) 0 (suc (firstIn rs w))
+
+-- the numbers i, i + 1, .. of which there are k
+unfoldable pub countFrom : ℕ → ℕ → List ℕ
+countFrom zero i = []
+countFrom (suc k) i = i ∷ countFrom k (suc i)
+
+abbrev pub upTo : ℕ → List ℕ
+upTo k = countFrom k 0
+
+abbrev pub barrierCount : ℕ
+barrierCount = 8
+
+-- A plan: the steps of worker 0, 1, .. n − 1, and the size of each barrier.
+pub record Plan : Type 0 where
+  pub steps : List (List Step)
+  pub sizes : List ℕ
+
+unfoldable pub planIn : List Record → Plan
+planIn rs =
+    record {
+      steps = map (λ w. stepsIn rs w) (upTo (workersIn rs));
+      sizes = map (λ b. sizeIn rs b) (upTo barrierCount);
+    }
+
+abbrev pub planOf : List ℕ → Plan
+planOf file = planIn (records file)

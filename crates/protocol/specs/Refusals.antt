@@ -1,0 +1,136 @@
+-- Document 01, "Who can cause which refusal": the refusals, and the check of a plan file.
+use Prim.Native.Nat.{ℕ, zero, suc, _+_, _*_, _%_}
+use mathlib.Core.Bool.{Bool, true, false, cond, not, _&&_, _||_}
+use mathlib.Core.List.{List, [], _∷_, _++_}
+use mathlib.Core.Option.{Option, none, some}
+use lib.Dec.{leb, ltb, eqb}
+use lib.ListN.{length}
+use Rattle.protocol.specs.Format.{Record, Row, records, recordWidth, planMark, rowOf, known, isBarrier, isStep, workersIn, stepsIn, barrierCount}
+
+pub data Refusal : Type 0 where
+  badLength badMark badPlan badBarrier badWorker badOp badOperand tooManySteps noSize skipTooFar : Refusal
+  badBuffer tooManyTurns badTurn : Refusal
+
+-- The paper's numbers.
+abbrev pub numberOf : Refusal → ℕ
+numberOf badLength = 1
+numberOf badMark = 2
+numberOf badPlan = 3
+numberOf badBarrier = 4
+numberOf badWorker = 5
+numberOf badOp = 6
+numberOf badOperand = 7
+numberOf tooManySteps = 8
+numberOf noSize = 9
+numberOf skipTooFar = 10
+numberOf badBuffer = 11
+numberOf tooManyTurns = 12
+numberOf badTurn = 13
+
+-- "A refusal returns its number and a record index (the plan record being 0; 0 unless stated)"
+pub data Verdict : Type 0 where
+  accepted : Verdict
+  refused : Refusal → ℕ → Verdict
+
+-- "To C both go as one number, refusal + 256 × index. An accepted call returns 0 and index 0."
+abbrev pub codeOf : Verdict → ℕ
+codeOf accepted = 0
+codeOf (refused f i) = numberOf f + 256 * i
+
+-- A rule names a refusal or none; the first of several rules that names one decides.
+abbrev pub Rule : Type 0
+Rule = Option Refusal
+
+abbrev pub holds : Rule
+holds = none
+
+abbrev pub refuseIf : Bool → Refusal → Rule → Rule
+refuseIf true f next = some f
+refuseIf false f next = next
+
+abbrev pub ruled : Rule → ℕ → Verdict → Verdict
+ruled (some f) i next = refused f i
+ruled none i next = next
+
+unfoldable pub anyOf : (Record → Bool) → List Record → Bool
+anyOf t [] = false
+anyOf t (r ∷ rs) = t r || anyOf t rs
+
+abbrev pub outside : ℕ → ℕ → ℕ → Bool
+outside least most k = ltb k least || ltb most k
+
+-- "1, file length 0, not a multiple of 7, or above 7,231"
+unfoldable pub lengthRule : ℕ → Rule
+lengthRule bytes = refuseIf (eqb bytes 0 || not (eqb (bytes % recordWidth) 0) || ltb 7231 bytes) badLength holds
+
+-- "3 first record isn't a plan record within its limits": "op 0, worker byte = count of workers n (1 to 8), register 0, number 0"
+unfoldable pub planRule : Record → Rule
+planRule r =
+    refuseIf
+    (not (eqb (r .op) 0) || outside 1 8 (r .worker) || not (eqb (r .register) 0) || not (eqb (r .number) 0))
+    badPlan
+    holds
+
+-- "4 barrier record out of order, after a step, or with any field out of range": "at most one record per barrier,
+-- ascending: op 1, worker byte 0, register = barrier (0 to 7), number = size (1 to 8)"
+unfoldable pub barrierRule : List Record → Record → Rule
+barrierRule before r =
+    refuseIf
+    (anyOf (λ q. isBarrier q && leb (r .register) (q .register)) before
+    || anyOf isStep before
+    || not (eqb (r .worker) 0)
+    || leb barrierCount (r .register)
+    || outside 1 8 (r .number))
+    badBarrier
+    holds
+
+-- "7 operand out of range"
+unfoldable pub operandsOutside : Option Row → ℕ → ℕ → Bool
+operandsOutside none register number = true
+operandsOutside (some x) register number = ltb (x .registers) register || outside (x .least) (x .most) number
+
+-- "6 unknown op; 5 step's worker not below n, or falling; 8 a worker's 129th step; 7 operand out of range; 9 barrier without a size"
+unfoldable pub stepRule : List Record → Record → Rule
+stepRule before r =
+    refuseIf (not (known (r .op))) badOp
+    (refuseIf
+    (leb (workersIn before) (r .worker) || anyOf (λ q. isStep q && ltb (r .worker) (q .worker)) before)
+    badWorker
+    (refuseIf (leb 128 (length (stepsIn before (r .worker)))) tooManySteps
+    (refuseIf (operandsOutside (rowOf (r .op)) (r .register) (r .number)) badOperand
+    (refuseIf
+    (eqb (r .op) 37 && not (anyOf (λ q. isBarrier q && eqb (q .register) (r .number)) before))
+    noSize
+    holds))))
+
+-- "3 .. or op 0 later"
+unfoldable pub laterRule : List Record → Record → Rule
+laterRule before r =
+    refuseIf (eqb (r .op) 0) badPlan
+    (cond (isBarrier r) (barrierRule before r) (stepRule before r))
+
+-- The rule of a record, by the records before it: "record by record in the order just written up to 9".
+unfoldable pub recordRule : List Record → Record → Rule
+recordRule [] r = refuseIf (not (eqb (r .mark) planMark)) badMark (planRule r)
+recordRule (q ∷ qs) r = refuseIf (not (eqb (r .mark) planMark)) badMark (laterRule (q ∷ qs) r)
+
+-- "10 skip too far": "a skip may land just behind the last step, not further", so its worker has as many steps behind it
+unfoldable pub skipRule : Record → List Record → Rule
+skipRule r behind =
+    refuseIf
+    ((eqb (r .op) 21 || eqb (r .op) 22) && ltb (length (stepsIn behind (r .worker))) (r .number))
+    skipTooFar
+    holds
+
+-- "then 10 over all steps, the first such skip giving the index"
+unfoldable pub checkSkips : ℕ → List Record → Verdict
+checkSkips i [] = accepted
+checkSkips i (r ∷ rs) = ruled (skipRule r rs) i (checkSkips (suc i) rs)
+
+unfoldable pub checkRecords : List Record → List Record → Verdict
+checkRecords before [] = checkSkips 0 before
+checkRecords before (r ∷ rs) = ruled (recordRule before r) (length before) (checkRecords (before ++ (r ∷ [])) rs)
+
+-- "A file tests 1, then record by record .., then 10 over all steps"
+unfoldable pub check : List ℕ → Verdict
+check file = ruled (lengthRule (length file)) 0 (checkRecords [] (records file))

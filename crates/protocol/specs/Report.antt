@@ -1,0 +1,63 @@
+-- Document 01, "Log and report": both as bytes.
+use Prim.Native.Nat.{ℕ, _/_, _%_}
+use mathlib.Core.Bool.{Bool, true, false, cond, _&&_}
+use mathlib.Core.List.{List, [], _∷_, _++_, map}
+use lib.Dec.{ltb}
+use lib.ListN.{length}
+use Rattle.protocol.specs.Format.{upTo}
+use Rattle.protocol.specs.Steps.{onCondition, atBarrier, Fate, going, exited, failed, waiting, Worker}
+use Rattle.protocol.specs.Rounds.{Entry, State, workerAt}
+use Rattle.protocol.specs.Turns.{ended}
+
+-- a two-byte number, low byte first
+abbrev pub twoBytes : ℕ → List ℕ
+twoBytes k = (k % 256) ∷ (k / 256 % 256) ∷ []
+
+-- "Each executed synchronising step adds 8 bytes: mark 4D 4C, round (two), worker, op, number (one each), outcome."
+abbrev pub entryBytes : Entry → List ℕ
+entryBytes e = 0x4D ∷ 0x4C ∷ (twoBytes (e .round) ++ (e .worker ∷ e .op ∷ e .number ∷ e .outcome ∷ []))
+
+unfoldable pub logBytes : List Entry → List ℕ
+logBytes [] = []
+logBytes (e ∷ es) = entryBytes e ++ logBytes es
+
+-- "finished if every worker exited or failed, else stuck"
+pub data End : Type 0 where
+  underWay finished stuck : End
+
+abbrev pub hasLeft : Fate → Bool
+hasLeft going = false
+hasLeft exited = true
+hasLeft failed = true
+hasLeft (waiting q) = false
+
+unfoldable pub allLeft : List Worker → Bool
+allLeft [] = true
+allLeft (v ∷ vs) = hasLeft (v .fate) && allLeft vs
+
+unfoldable pub endOf : State → End
+endOf s = cond (ended s) (cond (allLeft (s .workers)) finished stuck) underWay
+
+-- "end (0 going, 1 finished, 2 stuck)"
+abbrev pub endNumber : End → ℕ
+endNumber underWay = 0
+endNumber finished = 1
+endNumber stuck = 2
+
+-- "eight fates: 0 going, 1 exited, 2 failed, 3 on a condition, 4 at a barrier, 255 no such worker"
+abbrev pub fateNumber : Fate → ℕ
+fateNumber going = 0
+fateNumber exited = 1
+fateNumber failed = 2
+fateNumber (waiting (onCondition c)) = 3
+fateNumber (waiting (atBarrier b)) = 4
+
+unfoldable pub fateByte : State → ℕ → ℕ
+fateByte s w = cond (ltb w (length (s .workers))) (fateNumber (workerAt s w .fate)) 255
+
+-- "Report, 16 bytes: end; n; moving turns; rounds completed; log records (two bytes each); then eight fates"
+unfoldable pub reportBytes : State → List ℕ
+reportBytes s =
+    endNumber (endOf s)
+    ∷ length (s .workers)
+    ∷ (twoBytes (s .moves) ++ (twoBytes (s .rounds) ++ (twoBytes (length (s .log)) ++ map (λ w. fateByte s w) (upTo 8))))

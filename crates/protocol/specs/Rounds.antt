@@ -1,0 +1,271 @@
+-- Document 01, "Rounds": the state of a run, and the rule of each synchronising step.
+use Prim.Native.Nat.{ℕ, _+_, _-_}
+use mathlib.Core.Bool.{Bool, true, false, cond, not, _||_}
+use mathlib.Core.List.{List, [], _∷_, _++_}
+use lib.Dec.{ltb, eqb}
+use lib.ListN.{length, getD, set}
+use Rattle.protocol.specs.Format.{Own, Sync, lock, unlock, wait, signal, broadcast, barrier, exit, Plan}
+use Rattle.protocol.specs.Pages.{Copies, noCopies, commit}
+use Rattle.protocol.specs.Steps.{Queue, onCondition, atBarrier, Fate, going, exited, failed, waiting, Worker, workerOf, newWorker, fateAs, arrivedAs, ownStep}
+
+-- A record of the log: "round, worker, op, number, outcome".
+pub record Entry : Type 0 where
+  pub round : ℕ
+  pub worker : ℕ
+  pub op : ℕ
+  pub number : ℕ
+  pub outcome : ℕ
+
+-- "It holds shared memory; each worker's place, registers, count, copies and fate; the round's list, the next list and the queues; a log;
+-- tallies of moves and rounds." The queues stand in one list, `waiting`, in order of arrival.
+pub record State : Type 0 where
+  pub memory : List ℕ
+  pub workers : List Worker
+  pub list : List ℕ
+  pub next : List ℕ
+  pub waiting : List ℕ
+  pub log : List Entry
+  pub moves : ℕ
+  pub rounds : ℕ
+
+abbrev pub workerAt : State → ℕ → Worker
+workerAt s w = getD (s .workers) w newWorker
+
+-- one more move, in which a worker's record changes and nothing else
+abbrev pub workerMoved : ℕ → Worker → State → State
+workerMoved w v s =
+    record {
+      memory = s .memory;
+      workers = set (s .workers) w v;
+      list = s .list;
+      next = s .next;
+      waiting = s .waiting;
+      log = s .log;
+      moves = s .moves + 1;
+      rounds = s .rounds;
+    }
+
+-- A worker's own step, at the fence or with the token.
+abbrev pub ownMove : Own → ℕ → State → State
+ownMove o w s = workerMoved w (ownStep (s .memory) o (workerAt s w)) s
+
+-- "one that reaches a synchronising step, or its end, arrives at the fence"
+abbrev pub arrival : ℕ → State → State
+arrival w s = workerMoved w (arrivedAs true (workerAt s w)) s
+
+-- The queue of a condition or a barrier: those who wait on it, the first to arrive first.
+abbrev pub sameQueue : Queue → Queue → Bool
+sameQueue (onCondition c) (onCondition d) = eqb c d
+sameQueue (onCondition c) (atBarrier d) = false
+sameQueue (atBarrier c) (onCondition d) = false
+sameQueue (atBarrier c) (atBarrier d) = eqb c d
+
+abbrev pub waitsOn : Queue → Fate → Bool
+waitsOn q going = false
+waitsOn q exited = false
+waitsOn q failed = false
+waitsOn q (waiting p) = sameQueue q p
+
+unfoldable pub keep : (ℕ → Bool) → List ℕ → List ℕ
+keep t [] = []
+keep t (w ∷ ws) = cond (t w) (w ∷ keep t ws) (keep t ws)
+
+unfoldable pub queueOf : State → Queue → List ℕ
+queueOf s q = keep (λ w. waitsOn q (workerAt s w .fate)) (s .waiting)
+
+-- A rule is data: what becomes of the holder's copies, where the holder goes, and whom the step moves.
+pub data Bytes : Type 0 where
+  kept committed lost : Bytes
+
+-- "When it gives up the token it joins the tail of the next round's list, unless the rule says it leaves."
+pub data Goes : Type 0 where
+  keeps gives : Goes
+  leaves : Fate → Goes
+
+pub record Ruling : Type 0 where
+  pub bytes : Bytes
+  pub held : ℕ
+  pub goes : Goes
+  -- who "goes directly behind the holder in this round's list"
+  pub wakes : List ℕ
+  -- who joins the next list before the holder
+  pub joins : List ℕ
+  pub outcome : ℕ
+
+abbrev pub ruling : Bytes → ℕ → Goes → List ℕ → List ℕ → ℕ → Ruling
+ruling b h g ws js o = record { bytes = b; held = h; goes = g; wakes = ws; joins = js; outcome = o }
+
+-- "Failure: .. The worker leaves for good and its uncommitted bytes are lost." The outcome is "254 with the op as met".
+abbrev pub failure : ℕ → Ruling
+failure held = ruling lost held (leaves failed) [] [] 254
+
+-- "With count 0 give up the token, else run on."
+abbrev pub givesAtZero : ℕ → Goes
+givesAtZero held = cond (eqb held 0) gives keeps
+
+abbrev pub commitsAtZero : ℕ → Bytes
+commitsAtZero held = cond (eqb held 0) committed kept
+
+-- "Lock: with count 0, commit. Count rises by one; the holder keeps the token and runs on."
+abbrev pub lockRule : ℕ → Ruling
+lockRule held = ruling (commitsAtZero held) (held + 1) keeps [] [] (held + 1)
+
+-- "Unlock: count falls by one. At 0, commit and give up the token; else run on." "Failure: unlock .. with count 0"
+abbrev pub unlockRule : ℕ → Ruling
+unlockRule held =
+    cond (eqb held 0) (failure held)
+    (ruling (commitsAtZero (held - 1)) (held - 1) (givesAtZero (held - 1)) [] [] (held - 1))
+
+-- "Wait: commit, leave, join the tail of that condition's queue, count kept." "Failure: .. wait with count 0"
+abbrev pub waitRule : ℕ → ℕ → Ruling
+waitRule c held = cond (eqb held 0) (failure held) (ruling committed held (leaves (waiting (onCondition c))) [] [] 255)
+
+-- "Signal: commit; the first waiter, if any, goes directly behind the holder in this round's list."
+-- The outcome is "the woken worker or 255". "Broadcast: as signal."
+abbrev pub signalRule : List ℕ → ℕ → Ruling
+signalRule [] held = ruling committed held (givesAtZero held) [] [] 255
+signalRule (w ∷ ws) held = ruling committed held (givesAtZero held) (w ∷ []) [] w
+
+-- "Barrier: commit. With fewer than size − 1 queued, leave and queue. Otherwise the queued workers join the next list in order of arrival,
+-- then the caller." "Failure: .. barrier .. with count above 0". The outcome is "0 if it queued, else the size".
+abbrev pub barrierRule : ℕ → ℕ → List ℕ → ℕ → Ruling
+barrierRule b size queued held =
+    cond (not (eqb held 0)) (failure held)
+    (cond (ltb (length queued) (size - 1))
+    (ruling committed held (leaves (waiting (atBarrier b))) [] [] 0)
+    (ruling committed held gives [] queued size))
+
+-- "Exit: commit, leave." "Failure: .. exit with count above 0"
+abbrev pub exitRule : ℕ → Ruling
+exitRule held = cond (not (eqb held 0)) (failure held) (ruling committed held (leaves exited) [] [] 255)
+
+unfoldable pub ruleOf : Plan → (Queue → List ℕ) → ℕ → Sync → Ruling
+ruleOf plan queue held (lock k) = lockRule held
+ruleOf plan queue held (unlock k) = unlockRule held
+ruleOf plan queue held (wait c) = waitRule c held
+ruleOf plan queue held (signal c) = signalRule (queue (onCondition c)) held
+ruleOf plan queue held (broadcast c) = signalRule (queue (onCondition c)) held
+ruleOf plan queue held (barrier b) = barrierRule b (getD (plan .sizes) b 0) (queue (atBarrier b)) held
+ruleOf plan queue held exit = exitRule held
+
+abbrev pub opOf : Sync → ℕ
+opOf (lock k) = 32
+opOf (unlock k) = 33
+opOf (wait c) = 34
+opOf (signal c) = 35
+opOf (broadcast c) = 36
+opOf (barrier b) = 37
+opOf exit = 38
+
+abbrev pub operandOf : Sync → ℕ
+operandOf (lock k) = k
+operandOf (unlock k) = k
+operandOf (wait c) = c
+operandOf (signal c) = c
+operandOf (broadcast c) = c
+operandOf (barrier b) = b
+operandOf exit = 0
+
+-- The holder after its step. A commit drops its copies, and so does a failure.
+abbrev pub memoryAfter : Bytes → Copies → List ℕ → List ℕ
+memoryAfter kept copies memory = memory
+memoryAfter committed copies memory = commit copies memory
+memoryAfter lost copies memory = memory
+
+abbrev pub copiesAfter : Bytes → Copies → Copies
+copiesAfter kept copies = copies
+copiesAfter committed copies = noCopies
+copiesAfter lost copies = noCopies
+
+abbrev pub fateAfter : Goes → Fate
+fateAfter keeps = going
+fateAfter gives = going
+fateAfter (leaves f) = f
+
+-- Whoever comes back into a running round, woken from a condition, has arrived at its fence; from a barrier a worker comes back into
+-- the next round.
+abbrev pub hasArrived : Fate → Bool
+hasArrived going = false
+hasArrived exited = false
+hasArrived failed = false
+hasArrived (waiting (onCondition c)) = true
+hasArrived (waiting (atBarrier b)) = false
+
+abbrev pub arrivedAfter : Goes → Bool
+arrivedAfter keeps = true
+arrivedAfter gives = false
+arrivedAfter (leaves f) = hasArrived f
+
+abbrev pub afterRuling : Ruling → Worker → Worker
+afterRuling r v =
+    workerOf (v .place + 1) (v .registers) (r .held) (arrivedAfter (r .goes)) (copiesAfter (r .bytes) (v .copies))
+    (fateAfter (r .goes))
+
+-- where the holder stands: first in this list, last in the next, or last among those who wait
+abbrev pub staysIn : Goes → ℕ → List ℕ
+staysIn keeps h = h ∷ []
+staysIn gives h = []
+staysIn (leaves f) h = []
+
+abbrev pub joinsNext : Goes → ℕ → List ℕ
+joinsNext keeps h = []
+joinsNext gives h = h ∷ []
+joinsNext (leaves f) h = []
+
+abbrev pub isWaiting : Fate → Bool
+isWaiting going = false
+isWaiting exited = false
+isWaiting failed = false
+isWaiting (waiting q) = true
+
+abbrev pub joinsWaiting : Goes → ℕ → List ℕ
+joinsWaiting keeps h = []
+joinsWaiting gives h = []
+joinsWaiting (leaves f) h = cond (isWaiting f) (h ∷ []) []
+
+unfoldable pub member : ℕ → List ℕ → Bool
+member w [] = false
+member w (v ∷ vs) = eqb w v || member w vs
+
+abbrev pub without : List ℕ → List ℕ → List ℕ
+without out ws = keep (λ w. not (member w out)) ws
+
+-- those who wait no more
+unfoldable pub freed : List ℕ → List Worker → List Worker
+freed [] workers = workers
+freed (w ∷ ws) workers = freed ws (set workers w (fateAs going (getD workers w newWorker)))
+
+abbrev pub entryOf : State → ℕ → Sync → ℕ → Entry
+entryOf s h y outcome = record { round = s .rounds + 1; worker = h; op = opOf y; number = operandOf y; outcome = outcome }
+
+-- What a ruling does to the state, with the holder h and the rest of this round's list behind it.
+unfoldable pub apply : Sync → Ruling → ℕ → List ℕ → State → State
+apply y r h rest s =
+    record {
+      memory = memoryAfter (r .bytes) (workerAt s h .copies) (s .memory);
+      workers = set (freed (r .wakes ++ r .joins) (s .workers)) h (afterRuling r (workerAt s h));
+      list = staysIn (r .goes) h ++ (r .wakes ++ rest);
+      next = s .next ++ (r .joins ++ joinsNext (r .goes) h);
+      waiting = without (r .wakes ++ r .joins) (s .waiting) ++ joinsWaiting (r .goes) h;
+      log = s .log ++ (entryOf s h y (r .outcome) ∷ []);
+      moves = s .moves + 1;
+      rounds = s .rounds;
+    }
+
+-- The holder's synchronising step, by its rule.
+abbrev pub syncMove : Plan → Sync → ℕ → List ℕ → State → State
+syncMove plan y h rest s = apply y (ruleOf plan (queueOf s) (workerAt s h .held) y) h rest s
+
+-- "When the list is empty the next list begins the next round."
+unfoldable pub newRound : State → State
+newRound s =
+    record {
+      memory = s .memory;
+      workers = s .workers;
+      list = s .next;
+      next = [];
+      waiting = s .waiting;
+      log = s .log;
+      moves = s .moves;
+      rounds = s .rounds + 1;
+    }

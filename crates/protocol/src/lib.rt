@@ -1,0 +1,1 @@
+// The protocol's definitions and the theorems about them: no code. See specs/ and proofs/.
