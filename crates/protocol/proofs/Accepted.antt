@@ -7,10 +7,10 @@ use mathlib.Core.Option.{none, some}
 use native.Mathlib.Omega.{arith}
 use native.Mathlib.Decide.{decLt}
 use lib.Dec.{leb, ltb, eqb}
-use lib.ListN.{length, getD, drop, length-map, List·getD-map, List·getD-eq-default}
+use lib.ListN.{length, getD, drop, length-append, length-map, List·getD-map, List·getD-eq-default}
 use borrow.Author.Tests.{ltb-false, eqb-true, eqb-false, not-false}
 use Rattle.protocol.specs.Format.{Record, planMark, known, rowIn, recordsFrom, recordCount, records, isBarrier, isStep, workersIn, stepsIn, Step, sync, exit, own, skipZero, skipNonzero, firstIn, sizeIn, barrierCount, countFrom, upTo, planIn, planOf}
-use Rattle.protocol.specs.Refusals.{Rule, Verdict, accepted, ruled, holds, refuseIf, badMark, badPlan, badLength, outside, lengthRule, planRule, laterRule, recordRule, skipTooFar, skipRule, checkSkips, checkRecords, check}
+use Rattle.protocol.specs.Refusals.{Refusal, Rule, Verdict, accepted, refused, ruled, holds, refuseIf, badMark, badPlan, badLength, outside, lengthRule, planRule, laterRule, recordRule, skipTooFar, skipRule, checkSkips, checkRecords, check}
 use Rattle.protocol.specs.Steps.{stepsOf, stepAt}
 use Rattle.protocol.specs.Turns.{workersOf}
 use Rattle.protocol.proofs.Records.{one, or-left, or-right, and-left, and-right, first-unopened, first-inside}
@@ -225,3 +225,36 @@ module _ (rs : List Record) (a : Accepted rs) where
 -- An accepted file holds a sound plan.
 pub sound-file : (file : List ℕ) → check file ≡ accepted → Sound (planOf file)
 sound-file file e = sound (records file) (accepted-file file e .records)
+
+-- The record index of a refusal is that of a record.
+skips-index : (rs : List Record) (i j : ℕ) (f : Refusal) → checkSkips i rs ≡ refused f j → j < i + length rs
+unfolding checkSkips
+skips-index [] i j f e = let z : _≡_ {A = ℕ} 0 1 = cc in absurd (omega arith)
+skips-index (r ∷ rs) i j f e = go (skipRule r rs) (λ q. skips-index rs (suc i) j f q) e
+  where
+    go : (rule : Rule) → (checkSkips (suc i) rs ≡ refused f j → j < suc i + length rs) → ruled rule i (checkSkips (suc i) rs) ≡ refused f j → j < i + suc (length rs)
+    go none later q = let l = later q in omega arith
+    go (some g) later q = let s : i ≡ j = cc in omega arith
+
+records-index : (before rs : List Record) (j : ℕ) (f : Refusal) → checkRecords before rs ≡ refused f j → j < length before + length rs
+unfolding checkRecords
+records-index before [] j f e = let l = skips-index before 0 j f e in omega arith
+records-index before (r ∷ rs) j f e =
+    go (recordRule before r) (λ q. let l = records-index (before ++ one r) rs j f q in let n = length-append before (one r) in omega arith) e
+  where
+    go : (rule : Rule) → (checkRecords (before ++ one r) rs ≡ refused f j → j < length before + suc (length rs))
+        → ruled rule (length before) (checkRecords (before ++ one r) rs) ≡ refused f j → j < length before + suc (length rs)
+    go none later q = later q
+    go (some g) later q = let s : length before ≡ j = cc in omega arith
+
+pub check-index : (file : List ℕ) (j : ℕ) (f : Refusal) → check file ≡ refused f j → j ≤ 1033
+unfolding check
+check-index file j f e = go (lengthRule (length file)) refl e
+  where
+    go : (rule : Rule) → lengthRule (length file) ≡ rule → ruled rule 0 (checkRecords [] (records file)) ≡ refused f j → j ≤ 1033
+    go none p q =
+        let l = records-index [] (records file) j f q in
+        let n = length-records file in
+        let m = length-right file p .most in
+        omega arith
+    go (some g) p q = let s : _≡_ {A = ℕ} 0 j = cc in omega arith

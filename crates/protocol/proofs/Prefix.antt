@@ -76,7 +76,7 @@ module _ (rs : List Record) (r : Record) where
           first-one-unopened rs r v (omega arith) ∙ ap (λ (b : Bool). length rs + cond (b && leb v (r .worker)) 0 1) noStep
 
   -- a step: the steps of later workers begin one record further on
-  first-step : StepTaken rs r → (v : ℕ) → firstIn (rs ++ one r) v ≡ firstIn rs v + min 1 (v - r .worker)
+  pub first-step : StepTaken rs r → (v : ℕ) → firstIn (rs ++ one r) v ≡ firstIn rs v + min 1 (v - r .worker)
   first-step t v = elim (decLt v (openedIn rs)) [
     | yes h ↦ first-one-opened rs r v h ∙ (let l = t .level in omega arith)
     | no h ↦

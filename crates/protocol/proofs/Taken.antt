@@ -40,7 +40,7 @@ pub record BarrierTaken (before : List Record) (r : Record) : Type 0 where
   pub least : 1 ≤ r .number
   pub most : r .number ≤ 8
 
-barrier-no-step : (r : Record) → isBarrier r ≡ true → isStep r ≡ false
+pub barrier-no-step : (r : Record) → isBarrier r ≡ true → isStep r ≡ false
 unfolding known rowIn
 barrier-no-step r e = ap known (eqb-true (r .op) 1 e)
 

@@ -1,0 +1,2 @@
+-- What the lent bytes hold, and what the functions leave in them.
+pub mod Copies

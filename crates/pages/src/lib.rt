@@ -1,0 +1,184 @@
+// Page copies with their twins, in bytes that the caller lends. `work` holds, for each of 8 workers and each of 8 pages, a
+// working copy of 256 bytes and then its twin. A slot is a worker's place for one page, 8 × worker + page, and `copied` marks
+// the slots in use.
+ghost use mathlib.Core.Path.{_≡_};
+ghost use mathlib.Core.List.{List};
+ghost use Prim.Native.Nat.{ℕ, _+_, _*_, _<_, _≤_, _/_, _%_};
+ghost use lib.ListN.{length, drop, set, replicate};
+ghost use lib.Seq.{paste};
+ghost use Rattle.protocol.specs.Format.{word};
+ghost use Rattle.protocol.specs.Pages.{pageSize, pageCount, page, noCopies, opened, loadByte, loadWord, storeByte, storeWord, commit};
+ghost use Rattle.pages.specs.Copies.{Sizes, slotCopy, copiesIn, SlotHolds, WorkerHolds, Committed};
+
+pub struct Page;
+
+impl Page {
+    pub const SIZE: usize = 256;
+
+    pub const COUNT: usize = 8;
+    // a working copy and its twin
+    pub const PAIR: usize = 2 * Page::SIZE;
+}
+
+// Sets every byte to 0.
+pub fn clear(bytes: &mut [u8])
+    ensures { λ _. ⌜ now (bytes .exit) ≡ replicate (length (now (bytes .entry))) 0 ⌝ }
+{
+    let mut i = 0;
+    while i < bytes.len() {
+        bytes[i] = 0;
+        i += 1;
+    }
+}
+
+// Copies a page's worth of bytes.
+fn copy_page(from: &[u8], start: usize, into: &mut [u8], at: usize)
+    requires { ⌜ (start + pageSize ≤ length (now from)) × (at + pageSize ≤ length (now into)) ⌝ }
+    ensures { λ _. ⌜ now (into .exit) ≡ paste (now (into .entry)) at (drop start (now (from .entry))) pageSize ⌝ }
+{
+    let mut i = 0;
+    while i < Page::SIZE {
+        into[at + i] = from[start + i];
+        i += 1;
+    }
+}
+
+fn word_of(low: u8, high: u8) -> u16
+    ensures { λ r. ⌜ r ≡ word low high ⌝ }
+{
+    low as u16 + 256 * high as u16
+}
+
+fn low_byte(number: u16) -> u8
+    ensures { λ r. ⌜ r ≡ number % 256 ⌝ }
+{
+    (number % 256) as u8
+}
+
+fn high_byte(number: u16) -> u8
+    ensures { λ r. ⌜ r ≡ number / 256 ⌝ }
+{
+    (number / 256) as u8
+}
+
+// Both bytes are read before the choice: no branch waits for the mark.
+fn load_byte(memory: &[u8], work: &[u8], copied: &[bool; 64], w: usize, address: usize) -> u8
+    requires { ⌜ Sizes (now memory) (now work) × (w < 8) × (address < 2048) ⌝ }
+    ensures { λ r. ⌜ r ≡ loadByte (now (memory .entry)) (copiesIn (now (copied .entry)) (now (work .entry)) w) address ⌝ }
+{
+    let slot = Page::COUNT * w + address / Page::SIZE;
+    let own = work[Page::PAIR * slot + address % Page::SIZE];
+    let shared = memory[address];
+    if copied[slot] { own } else { shared }
+}
+
+// A worker's load of two bytes.
+pub fn load(memory: &[u8], work: &[u8], copied: &[bool; 64], w: usize, address: usize) -> u16
+    requires { ⌜ Sizes (now memory) (now work) × (w < 8) × (address ≤ 2046) ⌝ }
+    ensures { λ r. ⌜ r ≡ loadWord (now (memory .entry)) (copiesIn (now (copied .entry)) (now (work .entry)) w) address ⌝ }
+{
+    word_of(
+        load_byte(memory, work, copied, w, address),
+        load_byte(memory, work, copied, w, address + 1),
+    )
+}
+
+// Copies a page into its slot twice, unless the slot is in use.
+fn open_page(memory: &[u8], work: &mut [u8], copied: &mut [bool; 64], p: usize, slot: usize)
+    requires { ⌜ Sizes (now memory) (now work) × (length (now copied) ≡ 64) × (p < pageCount) × (slot < 64) ⌝ }
+    ensures { λ _. ⌜ SlotHolds slot (opened (page (now (memory .entry)) p) (slotCopy (now (copied .entry)) (now (work .entry)) slot)) (now (copied .entry)) (now (work .entry)) (now (copied .exit)) (now (work .exit)) ⌝ }
+{
+    if copied[slot] {
+        return;
+    }
+    let at = Page::PAIR * slot;
+    copy_page(memory, Page::SIZE * p, work, at);
+    copy_page(memory, Page::SIZE * p, work, at + Page::SIZE);
+    copied[slot] = true;
+}
+
+fn store_byte(
+    memory: &[u8],
+    work: &mut [u8],
+    copied: &mut [bool; 64],
+    w: usize,
+    address: usize,
+    byte: u8,
+)
+    requires { ⌜ Sizes (now memory) (now work) × (length (now copied) ≡ 64) × (w < 8) × (address < 2048) ⌝ }
+    ensures { λ _. ⌜ WorkerHolds w (storeByte (now (memory .entry)) (copiesIn (now (copied .entry)) (now (work .entry)) w) address byte) (now (copied .entry)) (now (work .entry)) (now (copied .exit)) (now (work .exit)) ⌝ }
+{
+    let p = address / Page::SIZE;
+    let slot = Page::COUNT * w + p;
+    open_page(memory, work, copied, p, slot);
+    work[Page::PAIR * slot + address % Page::SIZE] = byte;
+}
+
+// A worker's store of two bytes, which may touch two pages.
+pub fn store(
+    memory: &[u8],
+    work: &mut [u8],
+    copied: &mut [bool; 64],
+    w: usize,
+    address: usize,
+    number: u16,
+)
+    requires { ⌜ Sizes (now memory) (now work) × (length (now copied) ≡ 64) × (w < 8) × (address ≤ 2046) ⌝ }
+    ensures { λ _. ⌜ WorkerHolds w (storeWord (now (memory .entry)) (copiesIn (now (copied .entry)) (now (work .entry)) w) address number) (now (copied .entry)) (now (work .entry)) (now (copied .exit)) (now (work .exit)) ⌝ }
+{
+    store_byte(memory, work, copied, w, address, low_byte(number));
+    store_byte(memory, work, copied, w, address + 1, high_byte(number));
+}
+
+// Writes the bytes of a page's working copy that differ from its twin, unless the slot is unused. Each byte is written, changed
+// or not, so that the loop becomes vector code.
+fn commit_page(memory: &mut [u8], work: &[u8], copied: &[bool; 64], p: usize, slot: usize)
+    requires { ⌜ Sizes (now memory) (now work) × (p < pageCount) × (slot < 64) ⌝ }
+    ensures { λ _. ⌜ now (memory .exit) ≡ commit (set noCopies p (slotCopy (now (copied .entry)) (now (work .entry)) slot)) (now (memory .entry)) ⌝ }
+{
+    if !copied[slot] {
+        return;
+    }
+    let first = Page::SIZE * p;
+    let at = Page::PAIR * slot;
+    let mut i = 0;
+    while i < Page::SIZE {
+        let b = work[at + i];
+        let t = work[at + Page::SIZE + i];
+        let m = memory[first + i];
+        memory[first + i] = if b != t { b } else { m };
+        i += 1;
+    }
+}
+
+fn commit_pages(memory: &mut [u8], work: &[u8], copied: &[bool; 64], w: usize)
+    requires { ⌜ Sizes (now memory) (now work) × (w < 8) ⌝ }
+    ensures { λ _. ⌜ now (memory .exit) ≡ commit (copiesIn (now (copied .entry)) (now (work .entry)) w) (now (memory .entry)) ⌝ }
+{
+    let mut p = 0;
+    while p < Page::COUNT {
+        commit_page(memory, work, copied, p, Page::COUNT * w + p);
+        p += 1;
+    }
+}
+
+// A worker's copies are dropped.
+pub fn discard(copied: &mut [bool; 64], w: usize)
+    requires { ⌜ w < 8 ⌝ }
+    ensures { λ _. ⌜ ((work : List ℕ) → WorkerHolds w noCopies (now (copied .entry)) work (now (copied .exit)) work) ⌝ }
+{
+    let mut p = 0;
+    while p < Page::COUNT {
+        copied[Page::COUNT * w + p] = false;
+        p += 1;
+    }
+}
+
+// A worker's commit: shared memory gets what it changed, and its copies are dropped.
+pub fn commit(memory: &mut [u8], work: &[u8], copied: &mut [bool; 64], w: usize)
+    requires { ⌜ Sizes (now memory) (now work) × (w < 8) ⌝ }
+    ensures { λ _. ⌜ Committed w (now (copied .entry)) (now (work .entry)) (now (memory .entry)) (now (copied .exit)) (now (memory .exit)) ⌝ }
+{
+    commit_pages(memory, work, copied, w);
+    discard(copied, w);
+}

@@ -1,0 +1,5 @@
+pub mod Answer
+pub mod Reading
+pub mod Stepping
+pub mod Skipping
+pub mod Checking

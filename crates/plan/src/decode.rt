@@ -1,0 +1,54 @@
+// A record of the file.
+ghost use mathlib.Core.Path.{_≡_};
+ghost use Prim.Native.Nat.{_+_, _*_, _≤_};
+ghost use lib.ListN.{length};
+ghost use Rattle.protocol.specs.Format.{word, recordFrom};
+ghost use Rattle.plan.specs.Answer.{bodyOf, decodedOf};
+
+pub struct Record {
+    pub worker: u8,
+    pub op: u8,
+    pub register: u8,
+    pub number: u16,
+}
+
+pub enum Decoded {
+    Read(Record),
+    Unmarked,
+}
+
+// The mark 4D 50 as one number.
+const MARK: u16 = 0x504D;
+
+pub const WIDTH: usize = 7;
+
+// Two bytes as a number, low byte first.
+pub fn pair(low: u8, high: u8) -> u16
+    ensures { λ r. ⌜ r ≡ word low high ⌝ }
+{
+    low as u16 + 256 * (high as u16)
+}
+
+// What stands behind the mark of the record whose first byte is at a position.
+pub fn body(file: &[u8], at: usize) -> Record
+    requires { ⌜ at + 7 ≤ length (now file) ⌝ }
+    ensures { λ r. ⌜ r ≡ bodyOf (recordFrom (now (file .entry)) at) ⌝ }
+{
+    Record {
+        worker: file[at + 2],
+        op: file[at + 3],
+        register: file[at + 4],
+        number: pair(file[at + 5], file[at + 6]),
+    }
+}
+
+// The record whose first byte is at a position, if it has the mark.
+pub fn decode(file: &[u8], at: usize) -> Decoded
+    requires { ⌜ at + 7 ≤ length (now file) ⌝ }
+    ensures { λ r. ⌜ r ≡ decodedOf (recordFrom (now (file .entry)) at) ⌝ }
+{
+    if pair(file[at], file[at + 1]) != MARK {
+        return Decoded::Unmarked;
+    }
+    Decoded::Read(body(file, at))
+}

@@ -1,0 +1,52 @@
+// The skips: none may land further than just behind its worker's last step.
+use crate::answer::Refusal;
+use crate::answer::Verdict;
+use crate::decode::Record;
+use crate::decode::body;
+ghost use mathlib.Core.Path.{_≡_};
+ghost use mathlib.Core.Bool.{true};
+ghost use Prim.Native.Nat.{_+_, _*_, _≤_, _<_};
+ghost use lib.ListN.{length};
+ghost use Rattle.plan.specs.Answer.{verdictOf};
+ghost use Rattle.plan.specs.Reading.{before};
+ghost use Rattle.plan.specs.Skipping.{isSkip, tooFar, Laid};
+ghost use Rattle.protocol.specs.Refusals.{checkSkips};
+
+fn is_skip(op: u8) -> bool
+    ensures { λ b. ⌜ b ≡ isSkip op ⌝ }
+{
+    if op == 21 {
+        return true;
+    }
+    op == 22
+}
+
+// Whether record i is a skip that leaves its worker's steps.
+fn too_far(r: Record, i: usize, firsts: &[usize; 9]) -> bool
+    requires { ⌜ (isSkip (r .op) ≡ true → r .worker < 8) ⌝ }
+    requires { ⌜ i < 65536 ⌝ }
+    ensures { λ b. ⌜ b ≡ tooFar (now (firsts .entry)) i r ⌝ }
+{
+    if !is_skip(r.op) {
+        return false;
+    }
+    let next = r.worker as usize + 1;
+    firsts[next] < i + 1 + r.number as usize
+}
+
+// The first skip too far, if there is one.
+pub fn check_skips(file: &[u8], count: usize, firsts: &[usize; 9]) -> Verdict
+    requires { ⌜ 7 * count ≤ length (now file) ⌝ }
+    requires { ⌜ count < 65536 ⌝ }
+    requires { ⌜ Laid (now file) count (now firsts) ⌝ }
+    ensures { λ r. ⌜ verdictOf r ≡ checkSkips 0 (before (now (file .entry)) count) ⌝ }
+{
+    let mut i = 0;
+    while i < count {
+        if too_far(body(file, 7 * i), i, firsts) {
+            return Verdict::Refused(Refusal::SkipTooFar, i);
+        }
+        i += 1;
+    }
+    Verdict::Accepted
+}

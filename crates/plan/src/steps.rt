@@ -1,0 +1,157 @@
+// The step records, and where each worker's steps begin.
+use crate::answer::Refusal;
+use crate::answer::Ruling;
+use crate::answer::Verdict;
+use crate::decode::Decoded;
+use crate::decode::Record;
+use crate::decode::decode;
+use crate::table::Limits;
+use crate::table::Row;
+use crate::table::limits_of;
+ghost use mathlib.Core.Path.{_≡_};
+ghost use Prim.Native.Nat.{ℕ, _+_, _*_, _≤_, _<_};
+ghost use lib.ListN.{length, getD};
+ghost use Rattle.plan.specs.Answer.{ruleOf};
+ghost use Rattle.plan.specs.Stepping.{outsideOf, readSteps, stepRuling, laterRuling, StepsSoFar, Opened, StepsRead};
+
+// The index of each worker's first step; that of worker `n` is behind the last.
+pub struct Steps {
+    pub verdict: Verdict,
+    pub firsts: [usize; 9],
+}
+
+fn outside(row: Row, register: u8, number: u16) -> bool
+    ensures { λ b. ⌜ b ≡ outsideOf row register number ⌝ }
+{
+    if row.0 < register {
+        return true;
+    }
+    if number < row.1 {
+        return true;
+    }
+    row.2 < number
+}
+
+// How many steps of a worker have been read, at record i: the last worker's steps reach up to it.
+fn steps_read(firsts: &[usize; 9], opened: u8, worker: u8, i: usize) -> usize
+    requires { ⌜ worker < 9 ⌝ }
+    requires { ⌜ (worker < opened → getD (now firsts) worker 0 ≤ i) ⌝ }
+    ensures { λ r. ⌜ r ≡ readSteps (now (firsts .entry)) opened worker i ⌝ }
+{
+    if worker < opened {
+        let at = worker as usize;
+        return i - firsts[at];
+    }
+    0
+}
+
+// The rule of a step record.
+fn step_ruling(
+    r: Record,
+    n: u8,
+    opened: u8,
+    sizes: &[u8; 8],
+    firsts: &[usize; 9],
+    i: usize,
+) -> Ruling
+    requires { ⌜ n ≤ 8 ⌝ }
+    requires { ⌜ ((w : ℕ) → w < opened → getD (now firsts) w 0 ≤ i) ⌝ }
+    ensures { λ s. ⌜ ruleOf s ≡ stepRuling n opened (now (sizes .entry)) (now (firsts .entry)) i r ⌝ }
+{
+    let op = r.op;
+    let worker = r.worker;
+    let number = r.number;
+    let Limits::Within(row) = limits_of(op) else {
+        return Ruling::Refuses(Refusal::BadOp);
+    };
+    if n <= worker {
+        return Ruling::Refuses(Refusal::BadWorker);
+    }
+    if worker + 1 < opened {
+        return Ruling::Refuses(Refusal::BadWorker);
+    }
+    if 128 <= steps_read(firsts, opened, worker, i) {
+        return Ruling::Refuses(Refusal::TooManySteps);
+    }
+    if outside(row, r.register, number) {
+        return Ruling::Refuses(Refusal::BadOperand);
+    }
+    if op != 37 {
+        return Ruling::Holds;
+    }
+    let at = number as usize;
+    if sizes[at] == 0 {
+        return Ruling::Refuses(Refusal::NoSize);
+    }
+    Ruling::Holds
+}
+
+// The rule of a record behind the barrier records.
+fn later_ruling(
+    r: Record,
+    n: u8,
+    opened: u8,
+    sizes: &[u8; 8],
+    firsts: &[usize; 9],
+    i: usize,
+) -> Ruling
+    requires { ⌜ n ≤ 8 ⌝ }
+    requires { ⌜ ((w : ℕ) → w < opened → getD (now firsts) w 0 ≤ i) ⌝ }
+    ensures { λ s. ⌜ ruleOf s ≡ laterRuling n opened (now (sizes .entry)) (now (firsts .entry)) i r ⌝ }
+{
+    let op = r.op;
+    if op == 0 {
+        return Ruling::Refuses(Refusal::BadPlan);
+    }
+    if op == 1 {
+        return Ruling::Refuses(Refusal::BadBarrier);
+    }
+    step_ruling(r, n, opened, sizes, firsts, i)
+}
+
+// The steps of the workers from `opened` up to `worker` begin at record i.
+fn open_workers(firsts: &mut [usize; 9], opened: usize, worker: usize, i: usize)
+    requires { ⌜ worker < 9 ⌝ }
+    ensures { λ r. ⌜ Opened (now (firsts .entry)) opened (worker + 1) i (now (firsts .exit)) ⌝ }
+{
+    let mut k = opened;
+    while k <= worker {
+        firsts[k] = i;
+        k += 1;
+    }
+}
+
+// Reads the records from `start` on, which are the steps.
+pub fn read_steps(file: &[u8], count: usize, n: u8, sizes: &[u8; 8], start: usize) -> Steps
+    requires { ⌜ 7 * count ≤ length (now file) ⌝ }
+    requires { ⌜ StepsSoFar (now file) count n (now sizes) start ⌝ }
+    ensures { λ r. ⌜ StepsRead (now (file .entry)) count (now (sizes .entry)) start r ⌝ }
+{
+    let mut firsts = [0usize; 9];
+    let mut opened = 0u8;
+    let mut i = start;
+    while i < count {
+        let Decoded::Read(r) = decode(file, 7 * i) else {
+            return Steps {
+                verdict: Verdict::Refused(Refusal::BadMark, i),
+                firsts,
+            };
+        };
+        let ruling = later_ruling(r, n, opened, sizes, &firsts, i);
+        if let Ruling::Refuses(f) = ruling {
+            return Steps {
+                verdict: Verdict::Refused(f, i),
+                firsts,
+            };
+        }
+        let worker = r.worker;
+        open_workers(&mut firsts, opened as usize, worker as usize, i);
+        opened = worker + 1;
+        i += 1;
+    }
+    open_workers(&mut firsts, opened as usize, 8, count);
+    Steps {
+        verdict: Verdict::Accepted,
+        firsts,
+    }
+}

@@ -1,0 +1,153 @@
+// An ordered list of at most eight worker numbers, each below 16, in three numbers. Callers know it by its list alone.
+ghost use Prim.Native.Nat.{_+_, _≤_, _<_};
+ghost use mathlib.Core.Bool.{true, false, not};
+ghost use mathlib.Core.Path.{_≡_};
+ghost use mathlib.Core.List.{[], _∷_, _++_};
+ghost use lib.Dec.{eqb};
+ghost use lib.ListN.{length, getD, drop};
+ghost use Rattle.protocol.specs.Format.{upTo};
+ghost use Rattle.protocol.specs.Rounds.{keep, without};
+ghost use Rattle.protocol.specs.Turns.{noneLeft};
+ghost use Rattle.queue.specs.List.{listOf, Good, Holds, Below, matches};
+
+// Base-16 digits, the first worker lowest; unit is 16 to the power of len.
+pub struct Queue {
+    pub digits: u64,
+    pub unit: u64,
+    pub len: u64,
+}
+
+impl Queue {
+    pub fn empty() -> Queue
+        ensures { λ r. ⌜ Holds r [] ⌝ }
+    {
+        Queue {
+            digits: 0,
+            unit: 1,
+            len: 0,
+        }
+    }
+
+    pub fn one(w: u64) -> Queue
+        requires { ⌜ w < 16 ⌝ }
+        ensures { λ r. ⌜ Holds r (w ∷ []) ⌝ }
+    {
+        Queue {
+            digits: w,
+            unit: 16,
+            len: 1,
+        }
+    }
+
+    pub fn is_empty(self) -> bool
+        ensures { λ r. ⌜ r ≡ noneLeft (listOf self) ⌝ }
+    {
+        self.len == 0
+    }
+
+    pub fn first(self) -> u64
+        requires { ⌜ 0 < length (listOf self) ⌝ }
+        ensures { λ r. ⌜ r ≡ getD (listOf self) 0 0 ⌝ }
+    {
+        self.digits % 16
+    }
+
+    // All but the first.
+    pub fn rest(self) -> Queue
+        requires { ⌜ Good self × (0 < length (listOf self)) ⌝ }
+        ensures { λ r. ⌜ Holds r (drop 1 (listOf self)) ⌝ }
+    {
+        Queue {
+            digits: self.digits / 16,
+            unit: self.unit / 16,
+            len: self.len - 1,
+        }
+    }
+
+    pub fn append(self, behind: Queue) -> Queue
+        requires { ⌜ Good self × Good behind × (length (listOf self) + length (listOf behind) ≤ 8) ⌝ }
+        ensures { λ r. ⌜ Holds r (listOf self ++ listOf behind) ⌝ }
+    {
+        Queue {
+            digits: self.digits + self.unit * behind.digits,
+            unit: self.unit * behind.unit,
+            len: self.len + behind.len,
+        }
+    }
+
+    pub fn push(self, w: u64) -> Queue
+        requires { ⌜ Good self × (length (listOf self) < 8) × (w < 16) ⌝ }
+        ensures { λ r. ⌜ Holds r (listOf self ++ (w ∷ [])) ⌝ }
+    {
+        self.append(Queue::one(w))
+    }
+
+    pub fn cons(self, w: u64) -> Queue
+        requires { ⌜ Good self × (length (listOf self) < 8) × (w < 16) ⌝ }
+        ensures { λ r. ⌜ Holds r (w ∷ listOf self) ⌝ }
+    {
+        Queue::one(w).append(self)
+    }
+
+    // Workers 0 to n - 1.
+    pub fn up_to(n: u64) -> Queue
+        requires { ⌜ n ≤ 8 ⌝ }
+        ensures { λ r. ⌜ Holds r (upTo n) ⌝ }
+    {
+        let mut q = Queue::empty();
+        let mut i: u64 = 0;
+        while i < n {
+            q = q.push(i);
+            i += 1;
+        }
+        q
+    }
+
+    // All but one worker.
+    pub fn remove(self, w: u64) -> Queue
+        requires { ⌜ Good self ⌝ }
+        ensures { λ r. ⌜ Holds r (without (w ∷ []) (listOf self)) ⌝ }
+    {
+        let mut left = self;
+        let mut kept = Queue::empty();
+        while !left.is_empty() {
+            let v = left.first();
+            if v != w {
+                kept = kept.push(v);
+            }
+            left = left.rest();
+        }
+        kept
+    }
+
+    // Those whose entry is the key, where that is wanted, or those whose entry is not.
+    fn matching(self, on: &[u16; 8], key: u16, wanted: bool) -> Queue
+        requires { ⌜ Good self × Below 8 (listOf self) ⌝ }
+        ensures { λ r. ⌜ Holds r (keep (matches wanted (now (on .entry)) key) (listOf self)) ⌝ }
+    {
+        let mut left = self;
+        let mut kept = Queue::empty();
+        while !left.is_empty() {
+            let v = left.first();
+            if (on[v as usize] == key) == wanted {
+                kept = kept.push(v);
+            }
+            left = left.rest();
+        }
+        kept
+    }
+
+    pub fn select(self, on: &[u16; 8], key: u16) -> Queue
+        requires { ⌜ Good self × Below 8 (listOf self) ⌝ }
+        ensures { λ r. ⌜ Holds r (keep (λ w. eqb (getD (now (on .entry)) w 0) key) (listOf self)) ⌝ }
+    {
+        self.matching(on, key, true)
+    }
+
+    pub fn reject(self, on: &[u16; 8], key: u16) -> Queue
+        requires { ⌜ Good self × Below 8 (listOf self) ⌝ }
+        ensures { λ r. ⌜ Holds r (keep (λ w. not (eqb (getD (now (on .entry)) w 0) key)) (listOf self)) ⌝ }
+    {
+        self.matching(on, key, false)
+    }
+}
