@@ -45,6 +45,12 @@ impl Queue {
         self.len == 0
     }
 
+    pub fn count(self) -> u64
+        ensures { λ r. ⌜ r ≡ length (listOf self) ⌝ }
+    {
+        self.len
+    }
+
     pub fn first(self) -> u64
         requires { ⌜ 0 < length (listOf self) ⌝ }
         ensures { λ r. ⌜ r ≡ getD (listOf self) 0 0 ⌝ }

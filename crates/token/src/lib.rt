@@ -1,0 +1,71 @@
+// Who can move: at the fence everyone who has not arrived, behind it the holder alone.
+use queue::Queue;
+ghost use mathlib.Core.Bool.{true, false};
+ghost use mathlib.Core.Path.{_≡_};
+ghost use Prim.Native.Nat.{_+_, _-_, _≤_, _<_};
+ghost use lib.ListN.{length, set, getD};
+ghost use Rattle.queue.specs.List.{listOf, Good, Below};
+ghost use Rattle.token.specs.Token.{arrivedCan, raised, TurnedOver};
+
+// The round's list and the next one's, how many of the list have not arrived, and the rounds that are completed.
+pub struct Round {
+    pub list: Queue,
+    pub next: Queue,
+    pub away: u64,
+    pub rounds: u64,
+}
+
+// Worker w arrives at the fence; the last one to arrive hands the token to the first. How many are still away.
+pub fn arrive(list: Queue, away: u64, w: usize, can: &mut [bool; 8]) -> u64
+    requires { ⌜ (w < 8) × (1 ≤ away) × (0 < length (listOf list)) × (getD (listOf list) 0 0 < 8) ⌝ }
+    ensures { λ r. ⌜ (r ≡ away - 1) × (now (can .exit) ≡ arrivedCan (listOf list) away w (now (can .entry))) ⌝ }
+{
+    can[w] = false;
+    let left = away - 1;
+    if left != 0 {
+        return left;
+    }
+    let first = list.first() as usize;
+    can[first] = true;
+    left
+}
+
+// All of these can move.
+fn raise(can: &mut [bool; 8], workers: Queue)
+    requires { ⌜ Good workers × Below 8 (listOf workers) ⌝ }
+    ensures { λ r. ⌜ now (can .exit) ≡ raised (listOf workers) (now (can .entry)) ⌝ }
+{
+    let mut left = workers;
+    while !left.is_empty() {
+        let w = left.first() as usize;
+        can[w] = true;
+        left = left.rest();
+    }
+}
+
+// After the holder h's step: the first in the list holds the token, or, where the list is empty, the next round begins.
+pub fn turn_over(list: Queue, next: Queue, h: usize, rounds: u64, can: &mut [bool; 8]) -> Round
+    requires { ⌜ (h < 8) × (rounds < 65535) × Below 8 (listOf list) × Good next × Below 8 (listOf next) ⌝ }
+    ensures { λ r. ⌜ TurnedOver list next h rounds (now (can .entry)) r (now (can .exit)) ⌝ }
+{
+    can[h] = false;
+    if !list.is_empty() {
+        let first = list.first() as usize;
+        can[first] = true;
+        return Round {
+            list,
+            next,
+            away: 0,
+            rounds,
+        };
+    }
+    raise(can, next);
+    let none = Queue::empty();
+    let away = next.count();
+    Round {
+        list: next,
+        next: none,
+        away,
+        rounds: rounds + 1,
+    }
+}
