@@ -55,16 +55,16 @@ logBytes-more [] e = append-nil (entryBytes e)
 logBytes-more (x ∷ es) e = ap (λ (l : List ℕ). entryBytes x ++ l) (logBytes-more es e) ∙ sym (append-assoc (entryBytes x) (logBytes es) (entryBytes e))
 
 -- a record more, behind those that the log has
-pub record-more : (log : List ℕ) (es : List Entry) (e : Entry) (records n : ℕ) → 8 * records + 8 ≤ length log → take (8 * records) log ≡ logBytes es
-    → bytesOf 8 n ≡ entryBytes e → take (8 * (records + 1)) (sets log (8 * records) (bytesOf 8 n)) ≡ logBytes (es ++ (e ∷ []))
-record-more log es e records n fits old is =
-    ap (λ (l : List ℕ). take (8 * (records + 1)) l) (sets-eq (bytesOf 8 n) log (8 * records) fits)
-    ∙ (take-at (take (8 * records) log ++ bytesOf 8 n) (drop (8 * records + 8) log) (8 * (records + 1)) size
-    ∙ (ap (λ (l : List ℕ). l ++ bytesOf 8 n) old ∙ (ap (λ (l : List ℕ). logBytes es ++ l) is ∙ sym (logBytes-more es e))))
+pub record-more : (log : List ℕ) (es : List Entry) (e : Entry) (records : ℕ) → 8 * records + 8 ≤ length log → take (8 * records) log ≡ logBytes es
+    → take (8 * (records + 1)) (sets log (8 * records) (entryBytes e)) ≡ logBytes (es ++ (e ∷ []))
+record-more log es e records fits old =
+    ap (λ (l : List ℕ). take (8 * (records + 1)) l) (sets-eq (entryBytes e) log (8 * records) fits)
+    ∙ (take-at (take (8 * records) log ++ entryBytes e) (drop (8 * records + 8) log) (8 * (records + 1)) size
+    ∙ (ap (λ (l : List ℕ). l ++ entryBytes e) old ∙ sym (logBytes-more es e)))
   where
-    size : length (take (8 * records) log ++ bytesOf 8 n) ≡ 8 * (records + 1)
+    size : length (take (8 * records) log ++ entryBytes e) ≡ 8 * (records + 1)
     size =
-        length-append (take (8 * records) log) (bytesOf 8 n)
+        length-append (take (8 * records) log) (entryBytes e)
         ∙ (ap (λ (k : ℕ). k + 8) (length-take-le (8 * records) log (omega arith)) ∙ omega arith)
 
 -- zeros from a place on

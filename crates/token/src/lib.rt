@@ -31,7 +31,7 @@ pub fn arrive(list: Queue, away: u64, w: usize, can: &mut [bool; 8]) -> u64
 }
 
 // All of these can move.
-fn raise(can: &mut [bool; 8], workers: Queue)
+pub fn raise(can: &mut [bool; 8], workers: Queue)
     requires { ⌜ Good workers × Below 8 (listOf workers) ⌝ }
     ensures { λ r. ⌜ now (can .exit) ≡ raised (listOf workers) (now (can .entry)) ⌝ }
 {

@@ -1,0 +1,100 @@
+# make         the library, the header check, the C test programs
+# make test    the gate, .ci/run: all proofs from nothing, then every test
+# make test-c  the C tests alone
+# make clean   removes target/
+#
+# All that is built stands under target/. `rt ci` removes that folder too.
+
+CC = gcc
+CXX = g++
+CFLAGS = -std=c99 -O2 -g -Wall -Wextra -Werror -pedantic
+CXXFLAGS = -std=c++11 -O2 -g -Wall -Wextra -Werror -pedantic
+SANITIZE = -fsanitize=address,undefined -fno-sanitize-recover=all -fno-omit-frame-pointer
+VALGRIND = valgrind --quiet --error-exitcode=99 --leak-check=full
+
+LIB = target/staticlib/libtampermauve.a
+HEADER = include/tampermauve.h
+OUT = target/c
+
+# a C test program NAME is tests/NAME.c; it is run as it is, with sanitizers, and under valgrind
+C_TESTS = check
+C_PROGRAMS = $(C_TESTS:%=$(OUT)/%) $(C_TESTS:%=$(OUT)/%.sanitized)
+
+# Rattle programs, which `rt check` proves and links to target/bin/NAME
+RT_PROGRAMS =
+
+PROVED = $(shell find crates -name '*.rt' -o -name '*.antt') crates.txt
+
+.PHONY: all lib header programs test test-c test-header test-readme clean $(C_TESTS:%=test-c-%)
+
+all: lib header programs
+
+lib: $(LIB)
+
+header: $(OUT)/header.c.o $(OUT)/header.cc.o
+
+programs: $(C_PROGRAMS) $(OUT)/readme $(RT_PROGRAMS:%=target/bin/%)
+
+test:
+	.ci/run
+
+test-c: header $(C_TESTS:%=test-c-%) test-readme
+
+clean:
+	rm -rf target
+
+# ---- the library
+
+$(LIB): $(PROVED) toolchain.txt
+	.ci/toolchain
+	rt staticlib tampermauve
+
+# ---- Rattle programs
+
+target/bin/%: $(PROVED) toolchain.txt
+	.ci/toolchain
+	rt check $*
+
+# ---- the header, alone, as C99 and as C++
+
+$(OUT)/header.c.o: $(HEADER) | $(OUT)
+	$(CC) $(CFLAGS) -x c -c $< -o $@
+
+$(OUT)/header.cc.o: $(HEADER) | $(OUT)
+	$(CXX) $(CXXFLAGS) -x c++ -c $< -o $@
+
+# ---- C programs
+
+$(OUT):
+	mkdir -p $@
+
+$(OUT)/%: tests/%.c $(wildcard tests/*.h) $(HEADER) $(LIB) | $(OUT)
+	$(CC) $(CFLAGS) -Iinclude -Itests $< $(LIB) -o $@
+
+$(OUT)/%.sanitized: tests/%.c $(wildcard tests/*.h) $(HEADER) $(LIB) | $(OUT)
+	$(CC) $(CFLAGS) $(SANITIZE) -Iinclude -Itests $< $(LIB) -o $@
+
+$(C_TESTS:%=test-c-%): test-c-%: $(OUT)/% $(OUT)/%.sanitized
+	$(OUT)/$*
+	$(OUT)/$*.sanitized
+	@if command -v valgrind >/dev/null 2>&1; then \
+	    echo $(VALGRIND) $(OUT)/$*; $(VALGRIND) $(OUT)/$*; \
+	else \
+	    echo "valgrind is not installed: $* is not run under it"; \
+	fi
+
+# ---- the program in README.md, as it is printed there, and what README.md says that it prints
+
+$(OUT)/readme.c: README.md | $(OUT)
+	awk '/^```c$$/ { on = 1; next } /^```$$/ { if (on) exit } on' $< > $@
+
+$(OUT)/readme.expected: README.md | $(OUT)
+	awk '/^```text$$/ { on = 1; next } /^```$$/ { if (on) exit } on' $< > $@
+
+$(OUT)/readme: $(OUT)/readme.c $(HEADER) $(LIB)
+	$(CC) $(CFLAGS) -Iinclude $< $(LIB) -o $@
+
+test-readme: $(OUT)/readme $(OUT)/readme.expected
+	$(OUT)/readme > $(OUT)/readme.printed
+	diff $(OUT)/readme.expected $(OUT)/readme.printed
+	@echo "readme: prints what README.md says"

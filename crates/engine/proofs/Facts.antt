@@ -1,0 +1,198 @@
+-- What a state that the values show says of them, within a sound plan.
+use Prim.Native.Nat.{ℕ, _+_, _<_, _≤_}
+use native.Mathlib.Decide.{decLt}
+use native.Mathlib.Omega.{arith}
+use mathlib.Core.Bool.{Bool, true}
+use mathlib.Core.Path.{_≡_, refl, sym, ap, _∙_, subst⁻¹}
+use mathlib.Core.List.{List, [], _∷_}
+use lib.Dec.{eqb}
+use lib.ListN.{length, getD, length-append}
+use borrow.Author.Tests.{eq-eqb}
+use Rattle.protocol.specs.Format.{Step, sync, Sync, Plan}
+use Rattle.protocol.specs.Steps as steps
+use Rattle.protocol.specs.Steps.{Queue, waiting, stepAt}
+use Rattle.protocol.specs.Rounds.{State, workerAt, waitsOn, keep, queueOf, Ruling, ruleOf, entryOf, apply, syncMove, member}
+use Rattle.protocol.specs.Turns.{workersOf, allArrived, can, behind, closed, moveBy, move}
+use Rattle.protocol.specs.Demands.{occurs}
+use Rattle.protocol.proofs.Sound.{Sound}
+use Rattle.protocol.proofs.Invariant.{Core, Inv}
+use Rattle.protocol.proofs.Counting.{clash, member-some, occurs-same}
+use Rattle.protocol.proofs.Fence.{Can, runsUp, holds, can-view, in-list, all-arrived}
+use Rattle.protocol.proofs.OwnMoves.{Listed, listed}
+use Rattle.protocol.proofs.Rulings.{Lawful, applied-core, applied-arrived}
+use Rattle.protocol.proofs.Rules.{rule-lawful}
+use Rattle.protocol.proofs.Bounds.{bounded, records-bound, log-bound, placed-none}
+use Rattle.worker.specs.declared.Worker.{Worker}
+use Rattle.queue.specs.List.{listOf, Below}
+use Rattle.rules.specs.Codes.{fateCode}
+use Rattle.rules.proofs.Codes.{code-same}
+use Rattle.engine.specs.Shows.{idle, absent, Shows}
+use Rattle.engine.specs.declared.state.Tally.{Tally}
+use Rattle.engine.proofs.CanMove.{or-right, all-absent}
+
+-- who holds the token
+pub record Holder (s : State) (w : ℕ) : Type 0 where
+  pub rest : List ℕ
+  pub list : s .list ≡ w ∷ rest
+  pub arrived : workerAt s w .arrived ≡ true
+  pub all : allArrived s (s .list) ≡ true
+
+-- nobody is away: whoever can move holds the token
+pub holder : (s : State) (w : ℕ) → can s w ≡ true → absent s (s .list) ≡ 0 → Holder s w
+holder s w able near = go (can-view s w able)
+  where
+    all : allArrived s (s .list) ≡ true
+    all = all-absent s (s .list) ∙ eq-eqb (absent s (s .list)) 0 near
+
+    go : Can s w → Holder s w
+    go (runsUp m a) = clash (sym a ∙ all-arrived s w (s .list) all m)
+    go (holds rest e a all′) = record { rest = rest; list = e; arrived = a; all = all }
+
+-- the holder's step, by its rule
+abbrev pub ruleAt : Plan → State → ℕ → Sync → Ruling
+ruleAt plan s w y = ruleOf plan (queueOf s) (workerAt s w .held) y
+
+abbrev pub applied : Plan → State → ℕ → Sync → List ℕ → State
+applied plan s w y rest = apply y (ruleAt plan s w y) w rest s
+
+module _ (plan : Plan) (s : State) (c : Core plan s) (w : ℕ) (y : Sync) (h : Holder s w) (step : stepAt plan w (workerAt s w .place) ≡ sync y) where
+  pub hold-listed : Listed plan s w
+  hold-listed = listed plan s w c (subst⁻¹ (λ (ws : List ℕ). 0 < occurs w ws) (h .list) (omega (arith, occurs-same w (h .rest))))
+
+  pub hold-lawful : Lawful plan s w (ruleAt plan s w y)
+  hold-lawful = rule-lawful plan s w y c hold-listed step
+
+  pub hold-core : Core plan (applied plan s w y (h .rest))
+  hold-core = applied-core plan s y (ruleAt plan s w y) w (h .rest) c (h .list) (h .arrived) hold-lawful
+
+  pub hold-arrived : allArrived (applied plan s w y (h .rest)) (applied plan s w y (h .rest) .list) ≡ true
+  hold-arrived = applied-arrived plan s y (ruleAt plan s w y) w (h .rest) c (h .list) (h .arrived) hold-lawful (h .all)
+
+  pub hold-move : move plan s w ≡ closed (applied plan s w y (h .rest))
+  unfolding move
+  hold-move =
+      ap (λ (x : Step). moveBy plan x (workerAt s w .arrived) w s) step
+      ∙ ap (λ (b : Bool). moveBy plan (sync y) b w s) (h .arrived)
+      ∙ ap (λ (ws : List ℕ). closed (syncMove plan y w (behind ws) s)) (h .list)
+
+-- a list kept by tests that agree on it
+keep-same : (f g : ℕ → Bool) (ws : List ℕ) → ((u : ℕ) → member u ws ≡ true → f u ≡ g u) → keep f ws ≡ keep g ws
+unfolding keep member
+keep-same f g [] e = refl
+keep-same f g (w ∷ ws) e = rw (e w (rw (eq-eqb w w refl)), keep-same f g ws (λ u m. e u (or-right (eqb u w) m)))
+
+-- nobody else stands in a list
+module _ (plan : Plan) (s : State) (c : Core plan s) where
+  known-in : (w : ℕ) → 0 < occurs w (s .list) + occurs w (s .next) + occurs w (s .waiting) → w < workersOf plan
+  known-in w l = go (decLt w (workersOf plan))
+    where
+      go : Dec (w < workersOf plan) → w < workersOf plan
+      go (yes k) = k
+      go (no nk) = absurd (omega (arith, placed-none plan s w c (omega arith)))
+
+  pub list-known : Below (workersOf plan) (s .list)
+  list-known w m = known-in w (omega (arith, member-some w (s .list) m))
+
+  pub next-known : Below (workersOf plan) (s .next)
+  next-known w m = known-in w (omega (arith, member-some w (s .next) m))
+
+  pub waiting-known : Below (workersOf plan) (s .waiting)
+  waiting-known w m = known-in w (omega (arith, member-some w (s .waiting) m))
+
+module _ (plan : Plan) (sound : Sound plan) (s : State) (i : Inv plan s) (t : Tally) (workers : List Worker) (on : List ℕ) (mark copied : List Bool)
+    (memory log work : List ℕ) (shows : Shows (workersOf plan) s t workers on mark copied memory log work) where
+  below : (ws ws′ : List ℕ) → ws′ ≡ ws → Below (workersOf plan) ws → Below 8 ws′
+  below ws ws′ e b w m = omega (arith, b w (ap (λ (us : List ℕ). member w us) (sym e) ∙ m), sound .workers)
+
+  pub list-below : Below 8 (listOf (t .lists .list))
+  list-below = below (s .list) _ (shows .lined .list .list) (list-known plan s (i .core))
+
+  pub next-below : Below 8 (listOf (t .lists .next))
+  next-below = below (s .next) _ (shows .lined .next .list) (next-known plan s (i .core))
+
+  pub waiting-below : Below 8 (listOf (t .lists .waiting))
+  waiting-below = below (s .waiting) _ (shows .lined .waiting .list) (waiting-known plan s (i .core))
+
+  pub lists-fit : length (listOf (t .lists .list)) + length (listOf (t .lists .next)) + length (listOf (t .lists .waiting)) ≤ 8
+  lists-fit =
+      omega (
+        arith,
+        ap length (shows .lined .list .list),
+        ap length (shows .lined .next .list),
+        ap length (shows .lined .waiting .list),
+        bounded plan s sound i .lists,
+        sound .workers,
+      )
+
+  pub moves-fit : t .moves ≤ 2064
+  moves-fit = omega (arith, shows .moves, bounded plan s sound i .movesFit)
+
+  pub rounds-fit : t .rounds ≤ 2064
+  rounds-fit = omega (arith, shows .rounds, bounded plan s sound i .rounds, bounded plan s sound i .movesFit)
+
+  pub records-in : t .records ≤ 1032
+  records-in = omega (arith, shows .logged .count, bounded plan s sound i .recordsFit)
+
+  -- the queue of a condition or a barrier, by the codes
+  pub queue-same : (q : Queue) → keep (λ u. eqb (getD on u 0) (fateCode (waiting q))) (s .waiting) ≡ queueOf s q
+  unfolding queueOf
+  queue-same q =
+      keep-same (λ u. eqb (getD on u 0) (fateCode (waiting q))) (λ u. waitsOn q (workerAt s u .fate)) (s .waiting) (λ u m.
+      ap (λ (k : ℕ). eqb k (fateCode (waiting q))) (shows .lined .fates u (waiting-known plan s (i .core) u m)) ∙ code-same (workerAt s u .fate) q)
+
+  pub queue-listed : (q : Queue) → keep (λ u. eqb (getD on u 0) (fateCode (waiting q))) (listOf (t .lists .waiting)) ≡ queueOf s q
+  queue-listed q = ap (λ (ws : List ℕ). keep (λ u. eqb (getD on u 0) (fateCode (waiting q))) ws) (shows .lined .waiting .list) ∙ queue-same q
+
+  module _ (w : ℕ) (able : can s w ≡ true) where
+    pub can-listed : Listed plan s w
+    can-listed = listed plan s w (i .core) (member-some w (s .list) (in-list s w (can-view s w able)))
+
+    pub can-known : w < workersOf plan
+    can-known = can-listed .known
+
+    pub can-small : w < 8
+    can-small = omega (arith, can-known, sound .workers)
+
+    pub place-same : getD workers w idle .place ≡ workerAt s w .place
+    place-same = sym (ap (λ (v : steps.Worker). v .place) (shows .bytes .worker w can-known))
+
+    pub place-small : getD workers w idle .place ≤ 128
+    place-small = omega (arith, place-same, can-listed .place, sound .lengths w)
+
+    pub held-same : getD workers w idle .held ≡ workerAt s w .held
+    held-same = sym (ap (λ (v : steps.Worker). v .held) (shows .bytes .worker w can-known))
+
+    pub held-small : getD workers w idle .held ≤ 128
+    held-small = omega (arith, held-same, bounded plan s sound i .held w)
+
+    pub registers-four : length (getD workers w idle .registers) ≡ 4
+    registers-four = shows .bytes .registers w can-known
+
+    pub list-some : 0 < length (listOf (t .lists .list))
+    unfolding member
+    list-some = rw (shows .lined .list .list) (some (s .list) (in-list s w (can-view s w able)))
+      where
+        some : (ws : List ℕ) → member w ws ≡ true → 0 < length ws
+        some [] m = clash m
+        some (v ∷ vs) m = omega arith
+
+    module _ (near : t .away ≡ 0) where
+      pub holds-token : Holder s w
+      holds-token = holder s w able (sym (shows .lined .missing) ∙ near)
+
+      pub list-first : getD (s .list) 0 0 ≡ w
+      list-first = ap (λ (ws : List ℕ). getD ws 0 0) (holds-token .list)
+
+      pub queue-first : getD (listOf (t .lists .list)) 0 0 ≡ w
+      queue-first = ap (λ (ws : List ℕ). getD ws 0 0) (shows .lined .list .list) ∙ list-first
+
+      pub records-fit : (y : Sync) → stepAt plan w (workerAt s w .place) ≡ sync y → t .records + 1 ≤ 1032
+      unfolding apply
+      records-fit y step =
+          omega (
+            arith,
+            shows .logged .count,
+            length-append (s .log) (entryOf s w y (ruleAt plan s w y .outcome) ∷ []),
+            log-bound plan (applied plan s w y (holds-token .rest)) (hold-core plan s (i .core) w y holds-token step),
+            records-bound plan sound,
+          )

@@ -1,0 +1,12 @@
+pub mod Settling
+pub mod Deciding
+pub mod CanMove
+pub mod Parts
+pub mod Facts
+pub mod HoldShows
+pub mod OwnShows
+pub mod ArriveShows
+pub mod StartShows
+pub mod Holder
+pub mod Stepping
+pub mod Playing

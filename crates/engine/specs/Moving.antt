@@ -1,0 +1,99 @@
+-- What a move takes and ensures: the code's values show a state in which worker w can move, and then the state after its move.
+use Prim.Native.Nat.{ℕ, _≤_, _<_}
+use mathlib.Core.Bool.{Bool, true, false}
+use mathlib.Core.Path.{_≡_}
+use mathlib.Core.List.{List, []}
+use lib.ListN.{length, getD, set}
+use Rattle.protocol.specs.Format.{Plan, upTo, sync, planOf, records, sizeIn, firstIn}
+use Rattle.protocol.specs.Refusals.{check, accepted}
+use Rattle.protocol.specs.Steps.{stepAt}
+use Rattle.protocol.specs.Rounds.{State}
+use Rattle.protocol.specs.Turns.{workersOf, can, move}
+use Rattle.protocol.specs.Calls.{strays, playedFrom}
+use Rattle.protocol.proofs.Sound.{Sound}
+use Rattle.protocol.proofs.Invariant.{Inv}
+use Rattle.plan.specs.declared.decode.Record.{Record}
+use Rattle.moves.specs.Moves.{InRange}
+use Rattle.pages.specs.Copies.{Sizes}
+use Rattle.rules.specs.Codes.{syncOf}
+use Rattle.token.specs.Token.{raised}
+use Rattle.queue.specs.List.{Holds}
+use Rattle.worker.specs.declared.Worker.{Worker}
+use Rattle.engine.specs.declared.state.Tally.{Tally}
+use Rattle.engine.specs.declared.state.Moved.{Moved}
+use Rattle.engine.specs.declared.state.Played.{Played}
+use Rattle.engine.specs.Shows.{idle, Shows}
+
+-- a state of the plan that the values show, with v the record of worker w, which can move
+pub record Able (plan : Plan) (w : ℕ) (v : Worker) (t : Tally) (on : List ℕ) (mark copied : List Bool) (memory log work : List ℕ) : Type 0 where
+  pub sound : Sound plan
+  pub state : State
+  pub inv : Inv plan state
+  pub workers : List Worker
+  pub shows : Shows (workersOf plan) state t workers on mark copied memory log work
+  pub able : can state w ≡ true
+  pub worker : getD workers w idle ≡ v
+
+-- the values after the move show the state after the move
+abbrev pub Shown : (plan : Plan) (w : ℕ) → State → List Worker → Moved → List ℕ → List Bool → List Bool → List ℕ → List ℕ → List ℕ → Type 0
+Shown plan w s workers m on mark copied memory log work =
+    Shows (workersOf plan) (move plan s w) (m .tally) (set workers w (m .worker)) on mark copied memory log work
+
+-- worker w holds the token, at a synchronising step
+pub record Holding (r : Record) (w : ℕ) (v : Worker) (t : Tally) (sizes on : List ℕ) (mark copied : List Bool) (memory log work : List ℕ) : Type 0 where
+  pub plan : Plan
+  pub here : Able plan w v t on mark copied memory log work
+  pub nobody : t .away ≡ 0
+  pub late : 32 ≤ r .op
+  pub range : InRange (plan .sizes) r
+  pub step : stepAt plan w (v .place) ≡ sync (syncOf (r .op) (r .number))
+  pub sizesRight : (b : ℕ) → b < 8 → getD sizes b 0 ≡ getD (plan .sizes) b 0
+
+abbrev pub Held : (r : Record) (w : ℕ) (v : Worker) (t : Tally) (sizes on : List ℕ) (mark copied : List Bool) (memory log work : List ℕ)
+    → Moved → List ℕ → List Bool → List Bool → List ℕ → List ℕ → Type 0
+Held r w v t sizes on mark copied memory log work m on′ mark′ copied′ memory′ log′ =
+    (h : Holding r w v t sizes on mark copied memory log work)
+    → Shown (h .plan) w (h .here .state) (h .here .workers) m on′ mark′ copied′ memory′ log′ work
+
+-- the file's layout
+pub record Laid (file : List ℕ) (sizes firsts : List ℕ) : Type 0 where
+  pub ok : check file ≡ accepted
+  pub sizesRight : (b : ℕ) → b < 8 → getD sizes b 0 ≡ sizeIn (records file) b
+  pub firstsRight : (w : ℕ) → w < 9 → getD firsts w 0 ≡ firstIn (records file) w
+
+-- worker w can move, in the file's plan
+pub record Stepping (file sizes firsts : List ℕ) (w : ℕ) (v : Worker) (t : Tally) (on : List ℕ) (mark copied : List Bool) (memory log work : List ℕ) : Type 0 where
+  pub laid : Laid file sizes firsts
+  pub here : Able (planOf file) w v t on mark copied memory log work
+
+abbrev pub Stepped : (file sizes firsts : List ℕ) (w : ℕ) (v : Worker) (t : Tally) (on : List ℕ) (mark copied : List Bool) (memory log work : List ℕ)
+    → Moved → List ℕ → List Bool → List Bool → List ℕ → List ℕ → List ℕ → Type 0
+Stepped file sizes firsts w v t on mark copied memory log work m on′ mark′ copied′ memory′ log′ work′ =
+    (h : Stepping file sizes firsts w v t on mark copied memory log work)
+    → Shown (planOf file) w (h .here .state) (h .here .workers) m on′ mark′ copied′ memory′ log′ work′
+
+-- the lists and the tallies of round 1, and who can move
+pub record Opened (n : ℕ) (mark : List Bool) (t : Tally) (mark′ : List Bool) : Type 0 where
+  pub list : Holds (t .lists .list) (upTo n)
+  pub next : Holds (t .lists .next) []
+  pub waiting : Holds (t .lists .waiting) []
+  pub away : t .away ≡ n
+  pub moves : t .moves ≡ 0
+  pub rounds : t .rounds ≡ 0
+  pub records : t .records ≡ 0
+  pub marks : mark′ ≡ raised (upTo n) mark
+
+-- what a list of turns takes: an accepted file, buffers of their lengths, and turns that name its workers
+pub record Playing (file : List ℕ) (n : ℕ) (sizes firsts turns memory log work : List ℕ) : Type 0 where
+  pub laid : Laid file sizes firsts
+  pub workers : n ≡ workersOf (planOf file)
+  pub known : strays n turns ≡ false
+  pub bytes : Sizes memory work
+  pub room : length log ≡ 8256
+
+-- the values at the end show the state after the turns
+pub record Over (file turns start : List ℕ) (p : Played) (memory log work : List ℕ) : Type 0 where
+  pub workers : List Worker
+  pub marks : List Bool
+  pub copied : List Bool
+  pub shows : Shows (workersOf (planOf file)) (playedFrom (planOf file) start turns) (p .tally) workers (p .fates) marks copied memory log work

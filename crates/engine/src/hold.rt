@@ -1,0 +1,147 @@
+// The holder's synchronising step: decided by its rule, then written.
+use crate::state::Moved;
+use crate::state::Tally;
+use journal::log::append_at;
+use journal::log::packed;
+use plan::decode::Record;
+use queue::Queue;
+use rules::fates::settle_fates;
+use rules::lists::Lists;
+use rules::lists::moved;
+use rules::ruling::Bytes;
+use rules::ruling::Ruling;
+use rules::ruling::rule;
+use token::turn_over;
+use worker::Worker;
+ghost use mathlib.Core.Path.{_≡_};
+ghost use Prim.Native.Nat.{_+_, _*_, _≤_, _<_};
+ghost use lib.ListN.{length};
+ghost use lib.Seq.{sets};
+ghost use Rattle.protocol.specs.Report.{entryBytes};
+ghost use Rattle.journal.specs.Bytes.{entryAs};
+ghost use Rattle.pages.specs.Copies.{Sizes};
+ghost use Rattle.engine.specs.Held.{keyOf, sizeBy, Asking, Decided, Settled};
+ghost use Rattle.engine.specs.Moving.{Holding, Held};
+
+// The code of the fate of those who wait where the step says: at its condition or its barrier.
+fn key_of(r: Record) -> u16
+    requires { ⌜ r .number ≤ 15 ⌝ }
+    ensures { λ k. ⌜ k ≡ keyOf r ⌝ }
+{
+    if r.op == 37 {
+        return 5 + 2 * r.number;
+    }
+    4 + 2 * r.number
+}
+
+// The size of the barrier that the step names.
+fn size_by(r: Record, sizes: &[u8; 8]) -> u8
+    requires { ⌜ (r .op ≡ 37 → r .number < 8) ⌝ }
+    ensures { λ k. ⌜ k ≡ sizeBy r (now (sizes .entry)) ⌝ }
+{
+    if r.op != 37 {
+        return 0;
+    }
+    let b = r.number as usize;
+    sizes[b]
+}
+
+// A synchronising step's ruling, those whom it finds waiting, and the lists after it.
+pub struct Decision {
+    pub ruling: Ruling,
+    pub queued: Queue,
+    pub lists: Lists,
+}
+
+// Decides the holder h's step.
+fn decide(r: Record, h: u64, held: u16, sizes: &[u8; 8], lists: Lists, on: &[u16; 8]) -> Decision
+    requires { ⌜ Asking r h held lists ⌝ }
+    ensures { λ d. ⌜ Decided r h held (now (sizes .entry)) lists (now (on .entry)) d ⌝ }
+{
+    let key = key_of(r);
+    let waiting = lists.waiting;
+    let queued = waiting.select(on, key);
+    let size = size_by(r, sizes);
+    let ruling = rule(r.op, r.number, held, size, queued);
+    let after = moved(lists, ruling, h, queued, on, key);
+    Decision {
+        ruling,
+        queued,
+        lists: after,
+    }
+}
+
+// The holder's copies: kept, committed to shared memory, or lost.
+fn settle_bytes(bytes: Bytes, h: usize, memory: &mut [u8], work: &[u8], copied: &mut [bool; 64])
+    requires { ⌜ Sizes (now memory) (now work) × (h < 8) ⌝ }
+    ensures { λ _. ⌜ Settled bytes h (now (memory .entry)) (now (copied .entry)) (now (work .entry)) (now (memory .exit)) (now (copied .exit)) ⌝ }
+{
+    match bytes {
+        Bytes::Kept => {}
+        Bytes::Committed => pages::commit(memory, work, copied, h),
+        Bytes::Lost => pages::discard(copied, h),
+    }
+}
+
+// The step's record in the log.
+fn record_step(r: Record, h: usize, outcome: u8, rounds: u64, records: usize, log: &mut [u8])
+    requires { ⌜ (h < 8) × (r .number ≤ 15) × (rounds < 65535) × (8 * records + 8 ≤ length (now log)) ⌝ }
+    ensures { λ _. ⌜ now (log .exit) ≡ sets (now (log .entry)) (8 * records) (entryBytes (entryAs (rounds + 1) h (r .op) (r .number) outcome)) ⌝ }
+{
+    let round = (rounds + 1) as u16;
+    let entry = packed(round, h as u8, r.op, r.number as u8, outcome);
+    append_at(log, records, entry);
+}
+
+// The holder w's step: decided, then written.
+pub fn hold(
+    r: Record,
+    w: usize,
+    v: Worker,
+    t: Tally,
+    sizes: &[u8; 8],
+    on: &mut [u16; 8],
+    can: &mut [bool; 8],
+    copied: &mut [bool; 64],
+    memory: &mut [u8],
+    log: &mut [u8],
+    work: &[u8],
+) -> Moved
+    requires { ⌜ Holding r w v t (now sizes) (now on) (now can) (now copied) (now memory) (now log) (now work) ⌝ }
+    ensures { λ m. ⌜ Held r w v t (now (sizes .entry)) (now (on .entry)) (now (can .entry)) (now (copied .entry)) (now (memory .entry)) (now (log .entry)) (now (work .entry)) m (now (on .exit)) (now (can .exit)) (now (copied .exit)) (now (memory .exit)) (now (log .exit)) ⌝ }
+{
+    let lists = t.lists;
+    let d = decide(r, w as u64, v.held, sizes, lists, on);
+    let ruling = d.ruling;
+    let queued = d.queued;
+    let after = d.lists;
+    let bytes = ruling.bytes;
+    settle_fates(on, ruling, w, queued);
+    settle_bytes(bytes, w, memory, work, copied);
+    record_step(r, w, ruling.outcome, t.rounds, t.records, log);
+    let list = after.list;
+    let next = after.next;
+    let waiting = after.waiting;
+    let round = turn_over(list, next, w, t.rounds, can);
+    let here = round.list;
+    let later = round.next;
+    let registers = v.registers;
+    Moved {
+        worker: Worker {
+            place: v.place + 1,
+            held: ruling.held,
+            registers,
+        },
+        tally: Tally {
+            lists: Lists {
+                list: here,
+                next: later,
+                waiting,
+            },
+            away: round.away,
+            moves: t.moves + 1,
+            rounds: round.rounds,
+            records: t.records + 1,
+        },
+    }
+}

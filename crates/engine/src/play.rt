@@ -1,0 +1,84 @@
+// A list of turns.
+use crate::state::Played;
+use crate::state::Tally;
+use crate::step::step;
+use queue::Queue;
+use rules::lists::Lists;
+use token::raise;
+use worker::Worker;
+ghost use Prim.Native.Nat.{_≤_};
+ghost use Rattle.engine.specs.Moving.{Opened, Playing, Over};
+
+// Round 1 of n workers: all of them are in its list, and all can move.
+fn first_round(n: u64, can: &mut [bool; 8]) -> Tally
+    requires { ⌜ n ≤ 8 ⌝ }
+    ensures { λ t. ⌜ Opened n (now (can .entry)) t (now (can .exit)) ⌝ }
+{
+    let list = Queue::up_to(n);
+    let next = Queue::empty();
+    let waiting = Queue::empty();
+    raise(can, list);
+    let lists = Lists {
+        list,
+        next,
+        waiting,
+    };
+    Tally {
+        lists,
+        away: n,
+        moves: 0,
+        rounds: 0,
+        records: 0,
+    }
+}
+
+// Plays the turns from the start of round 1. A turn by a worker that cannot move passes.
+pub fn play(
+    file: &[u8],
+    n: u8,
+    sizes: &[u8; 8],
+    firsts: &[usize; 9],
+    turns: &[u8],
+    memory: &mut [u8],
+    log: &mut [u8],
+    work: &mut [u8],
+) -> Played
+    requires { ⌜ Playing (now file) n (now sizes) (now firsts) (now turns) (now memory) (now log) (now work) ⌝ }
+    ensures { λ p. ⌜ Over (now (file .entry)) (now (turns .entry)) (now (memory .entry)) p (now (memory .exit)) (now (log .exit)) (now (work .exit)) ⌝ }
+{
+    let fresh = Worker::new();
+    let mut workers = [fresh; 8];
+    let mut on = [0u16; 8];
+    let mut can = [false; 8];
+    let mut copied = [false; 64];
+    let mut t = first_round(n as u64, &mut can);
+    let mut i = 0;
+    while i < turns.len() {
+        let w = turns[i] as usize;
+        if can[w] {
+            let v = workers[w];
+            let m = step(
+                file,
+                sizes,
+                firsts,
+                w,
+                v,
+                t,
+                &mut on,
+                &mut can,
+                &mut copied,
+                memory,
+                log,
+                work,
+            );
+            let after = m.worker;
+            workers[w] = after;
+            t = m.tally;
+        }
+        i += 1;
+    }
+    Played {
+        tally: t,
+        fates: on,
+    }
+}

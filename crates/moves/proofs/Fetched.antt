@@ -1,0 +1,187 @@
+-- The step at a worker's place. Callers want `fetched`, `in-range` and what comes before them in the last module.
+use Prim.Native.Nat.{ℕ, zero, suc, _+_, _*_, _<_, _≤_}
+use mathlib.Core.Bool.{Bool, true, false, cond, not, _&&_, _||_}
+use mathlib.Core.Logic.{inl, inr}
+use mathlib.Core.Option.{Option, some}
+use mathlib.Core.Path.{_≡_, refl, sym, ap, _∙_, subst, subst⁻¹}
+use mathlib.Core.List.{List}
+use native.Mathlib.Omega.{arith}
+use native.Mathlib.Decide.{decLt}
+use lib.Dec.{ltb, eqb}
+use lib.ListN.{length, getD, List·getD-eq-default}
+use borrow.Author.Tests.{lt-ltb, le-ltb, ltb-false, eq-eqb, eqb-false, not-true, not-false}
+use Rattle.protocol.specs.Format as format
+use Rattle.protocol.specs.Format.{Row, table, rowIn, rowOf, isStep, recordFrom, recordsFrom, recordCount, records, Step, sync, exit, stepOf, stepsIn, sizeIn, firstIn, planOf}
+use Rattle.protocol.specs.Refusals.{accepted, check, operandsOutside, anyOf}
+use Rattle.protocol.specs.Steps.{stepsOf, stepAt}
+use Rattle.protocol.proofs.Records.{or-left, or-right, and-left, names, first-inside}
+use Rattle.protocol.proofs.Tabled.{Every, row-of}
+use Rattle.protocol.proofs.Prefix.{blank}
+use Rattle.protocol.proofs.Accepted.{AcceptedFile, accepted-file, length-records, steps-of, size-of}
+use Rattle.plan.specs.Answer.{bodyOf}
+use Rattle.plan.specs.declared.decode.Record.{Record}
+use Rattle.moves.specs.Moves.{endBody, fetchedAs, stepOfBody, InRange}
+
+module _ (file : List ℕ) (first end place : ℕ) where
+  by-place : (b : Bool) → ltb (first + place) end ≡ b → fetchedAs file first end place ≡ cond b (bodyOf (recordFrom file (7 * (first + place)))) endBody
+  unfolding fetchedAs
+  by-place b e = ap (λ (t : Bool). cond t (bodyOf (recordFrom file (7 * (first + place)))) endBody) e
+
+  pub fetched-step : first + place < end → fetchedAs file first end place ≡ bodyOf (recordFrom file (7 * (first + place)))
+  fetched-step h = by-place true (lt-ltb (first + place) end h)
+
+  pub fetched-end : end ≤ first + place → fetchedAs file first end place ≡ endBody
+  fetched-end h = by-place false (le-ltb (first + place) end h)
+
+step-body : (r : format.Record) → stepOfBody (bodyOf r) ≡ stepOf r
+unfolding stepOfBody stepOf
+step-body r = refl
+
+step-end : stepOfBody endBody ≡ sync exit
+unfolding stepOfBody stepOf rowIn
+step-end = refl
+
+-- what the limits of every row say of its op
+record Ranged (x : Row) : Type 0 where
+  least : 16 ≤ x .op
+  most : x .op ≤ 38
+  apart : x .op < 32 → x .op ≤ 22
+  named : x .op ≤ 22 → x .registers < 4
+  address : 17 ≤ x .op → x .op ≤ 18 → x .most ≤ 2046
+  operand : 19 ≤ x .op → x .op ≤ 20 → x .most < 4
+  skip : 21 ≤ x .op → x .op ≤ 22 → (1 ≤ x .least) × (x .most ≤ 127)
+  object : 32 ≤ x .op → x .most ≤ 15
+  queue : 34 ≤ x .op → x .op ≤ 37 → x .most ≤ 7
+  exit : x .op ≡ 38 → x .most ≡ 0
+
+tableRanged : Every Ranged table
+tableRanged = search (tt, arith) depth 40 fits 4000
+
+-- a step record within its row's limits
+ranged : (sizes : List ℕ) (r : format.Record) → isStep r ≡ true → operandsOutside (rowOf (r .op)) (r .register) (r .number) ≡ false
+    → (r .op ≡ 37 → r .number ≤ 7 → (1 ≤ getD sizes (r .number) 0) × (getD sizes (r .number) 0 ≤ 8))
+    → InRange sizes (bodyOf r)
+unfolding operandsOutside
+ranged sizes r step fits sized =
+    let f = row-of Ranged tableRanged r step in
+    let x = f .row in
+    let h = f .holds in
+    let op = f .op in
+    let inside = sym (ap (λ (o : Option Row). operandsOutside o (r .register) (r .number)) (f .isRow)) ∙ fits in
+    let register = ltb-false (x .registers) (r .register) (or-left (ltb (x .registers) (r .register)) (ltb (r .number) (x .least) || ltb (x .most) (r .number)) inside) in
+    let number = or-right (ltb (x .registers) (r .register)) inside in
+    let low = ltb-false (r .number) (x .least) (or-left (ltb (r .number) (x .least)) (ltb (x .most) (r .number)) number) in
+    let high = ltb-false (x .most) (r .number) (or-right (ltb (r .number) (x .least)) number) in
+    let queue : 34 ≤ r .op → r .op ≤ 37 → r .number ≤ 7 = λ l m. let k = h .queue (omega arith) (omega arith) in omega arith in
+    record {
+      kind =
+          elim (decLt (r .op) 32) [
+            | yes l ↦ let m = h .apart (omega arith) in let k = h .least in inl (omega arith)
+            | no l ↦ let k = h .most in inr (omega arith)
+          ];
+      named = λ l. let k = h .named (omega arith) in omega arith;
+      address = λ l m. let k = h .address (omega arith) (omega arith) in omega arith;
+      operand = λ l m. let k = h .operand (omega arith) (omega arith) in omega arith;
+      skip = λ l m. let k = h .skip (omega arith) (omega arith) in omega arith;
+      object = λ l. let k = h .object (omega arith) in omega arith;
+      queue = queue;
+      exit = λ e. let k = h .exit (omega arith) in omega arith;
+      size = λ e. sized e (queue (omega arith) (omega arith));
+    }
+
+ranged-end : (sizes : List ℕ) → InRange sizes endBody
+ranged-end sizes =
+    record {
+      kind = inr (omega arith);
+      named = λ l. omega arith;
+      address = λ l m. omega arith;
+      operand = λ l m. omega arith;
+      skip = λ l m. omega arith;
+      object = λ l. omega arith;
+      queue = λ l m. omega arith;
+      exit = λ e. refl;
+      size = λ e. absurd (omega arith);
+    }
+
+record-from : (file : List ℕ) (k i j : ℕ) → j < k → getD (recordsFrom file k i) j blank ≡ recordFrom file (7 * (i + j))
+unfolding recordsFrom
+record-from file zero i j h = absurd (omega arith)
+record-from file (suc k) i zero h = ap (λ (n : ℕ). recordFrom file (7 * n)) (omega arith)
+record-from file (suc k) i (suc j) h = record-from file k (suc i) j (omega arith) ∙ ap (λ (n : ℕ). recordFrom file (7 * n)) (omega arith)
+
+record-at : (file : List ℕ) (i : ℕ) → i < recordCount file → getD (records file) i blank ≡ recordFrom file (7 * i)
+unfolding records
+record-at file i h = record-from file (recordCount file) 0 i h ∙ ap (λ (n : ℕ). recordFrom file (7 * n)) (omega arith)
+
+-- An accepted file: the records of worker w are those from `first` to before `end`.
+module _ (file : List ℕ) (ok : check file ≡ accepted) where
+  abbrev rs : List format.Record
+  rs = records file
+
+  a : AcceptedFile file
+  a = accepted-file file ok
+
+  -- what `fetch` requires
+  pub fetchable : (w : ℕ) → (7 * firstIn rs (suc w) ≤ length file) × (firstIn rs (suc w) ≤ 1033) × (firstIn rs w ≤ firstIn rs (suc w))
+  fetchable w =
+      omega (arith, first-inside rs (suc w), length-records file, a .size .bytes, a .size .most, a .records .read .together w)
+
+  pub ends-inside : (w : ℕ) → firstIn rs (suc w) ≤ recordCount file
+  ends-inside w = omega (arith, first-inside rs (suc w), length-records file)
+
+  -- where a worker's steps end
+  pub steps-end : (w : ℕ) → firstIn rs w + length (stepsOf (planOf file) w) ≡ firstIn rs (suc w)
+  steps-end w = ap (λ (ss : List Step). firstIn rs w + length ss) (steps-of rs (a .records) w) ∙ a .records .read .together w
+
+  -- a place within the steps, and within the records
+  pub within : (w place : ℕ) → place < length (stepsOf (planOf file) w) → firstIn rs w + place < firstIn rs (suc w)
+  within w place h = omega (arith, steps-end w)
+
+  pub within-steps : (w place : ℕ) → firstIn rs w + place < firstIn rs (suc w) → place < length (stepsOf (planOf file) w)
+  within-steps w place h = omega (arith, steps-end w)
+
+  fetched-record : (w place : ℕ) → firstIn rs w + place < firstIn rs (suc w)
+      → fetchedAs file (firstIn rs w) (firstIn rs (suc w)) place ≡ bodyOf (getD rs (firstIn rs w + place) blank)
+  fetched-record w place h =
+      fetched-step file (firstIn rs w) (firstIn rs (suc w)) place h
+      ∙ ap bodyOf (sym (record-at file (firstIn rs w + place) (omega (arith, ends-inside w))))
+
+  -- The fetched record is the step at the place.
+  pub fetched : (w place : ℕ) → stepOfBody (fetchedAs file (firstIn rs w) (firstIn rs (suc w)) place) ≡ stepAt (planOf file) w place
+  fetched w place =
+      elim (decLt (firstIn rs w + place) (firstIn rs (suc w))) [
+        | yes h ↦
+            let s = a .records .read .placed w place (omega (arith, a .records .read .together w)) in
+            ap stepOfBody (fetched-record w place h) ∙ (step-body (getD rs (firstIn rs w + place) blank) ∙ sym (s .step))
+        | no h ↦
+            ap stepOfBody (fetched-end file (firstIn rs w) (firstIn rs (suc w)) place (omega arith))
+            ∙ (step-end ∙ sym (List·getD-eq-default (stepsIn rs w) (sync exit) {n = place} (omega (arith, a .records .read .together w))))
+      ]
+      ∙ ap (λ (ss : List Step). getD ss place (sync exit)) (sym (steps-of rs (a .records) w))
+
+  -- a barrier that a record names has a size from 1 to 8
+  sized : (b : ℕ) → b ≤ 7 → anyOf (names b) rs ≡ true → (1 ≤ getD (planOf file .sizes) b 0) × (getD (planOf file .sizes) b 0 ≤ 8)
+  sized b h e =
+      let s = a .records .read .sized b in
+      let some = eqb-false (sizeIn rs b) 0 (not-true _ (sym (s .found) ∙ e)) in
+      let most = s .most in
+      let same = size-of rs (a .records) b (omega arith) in
+      omega arith
+
+  -- The fetched record is in range.
+  pub in-range : (w place : ℕ) → InRange (planOf file .sizes) (fetchedAs file (firstIn rs w) (firstIn rs (suc w)) place)
+  in-range w place =
+      elim (decLt (firstIn rs w + place) (firstIn rs (suc w))) [
+        | yes h ↦
+            let i = firstIn rs w + place in
+            let r = getD rs i blank in
+            let s = a .records .read .placed w place (omega (arith, a .records .read .together w)) in
+            let step = and-left (isStep r) (eqb (r .worker) w) (s .ofWorker) in
+            let f = a .records .read .fit i (omega (arith, first-inside rs (suc w))) step in
+            subst⁻¹ (λ (b : Record). InRange (planOf file .sizes) b) (fetched-record w place h)
+            (ranged (planOf file .sizes) r step (f .inside)
+            (λ e m. sized (r .number) m (not-false _ (sym (ap (λ (b : Bool). b && not (anyOf (names (r .number)) rs)) (eq-eqb (r .op) 37 e)) ∙ f .sized))))
+        | no h ↦
+            subst⁻¹ (λ (b : Record). InRange (planOf file .sizes) b) (fetched-end file (firstIn rs w) (firstIn rs (suc w)) place (omega arith))
+            (ranged-end (planOf file .sizes))
+      ]

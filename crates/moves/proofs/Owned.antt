@@ -1,0 +1,136 @@
+-- The laws of an own step on the lent bytes. Callers want `own-kind`, `sync-kind`, `own-ready` and `step-of-own`.
+use Prim.Native.Nat.{ℕ, _≤_, _<_}
+use mathlib.Core.Bool.{Bool, true, false, cond}
+use mathlib.Core.Logic.{⊎-elim}
+use mathlib.Core.Path.{_≡_, refl, sym, ap, _∙_, subst⁻¹}
+use mathlib.Core.List.{List}
+use native.Mathlib.Omega.{arith}
+use lib.Dec.{eqb}
+use lib.ListN.{length}
+use borrow.Author.Tests.{eq-eqb, ne-eqb}
+use Rattle.protocol.specs.Format.{Own, assign, load, store, add, subtract, skipZero, skipNonzero, own}
+use Rattle.protocol.specs.Pages.{Copies, loadWord}
+use Rattle.protocol.specs.Steps as steps
+use Rattle.protocol.specs.Steps.{Fate, going, ownStep}
+use Rattle.plan.specs.declared.decode.Record.{Record}
+use Rattle.pages.specs.Copies.{copiesIn, WorkerHolds}
+use Rattle.worker.proofs.OwnSteps.{step-own}
+use Rattle.worker.specs.Private.{viewed, ownOf, copiesAfter, Stepped}
+use Rattle.worker.specs.declared.Worker.{Worker}
+use Rattle.worker.specs.declared.Moved.{Moved}
+use Rattle.worker.specs.declared.Outcome.{Outcome}
+use Rattle.moves.specs.Moves.{stepOfBody, InRange, OwnReady, copiesLeft, OwnMoved}
+
+-- an op below 32 is an own step's, any other a synchronising step's
+pub own-kind : {sizes : List ℕ} {r : Record} → InRange sizes r → r .op < 32 → (16 ≤ r .op) × (r .op ≤ 22)
+own-kind i h = ⊎-elim (λ k. k) (λ k. absurd (omega arith)) (i .kind)
+
+pub sync-kind : {sizes : List ℕ} {r : Record} → InRange sizes r → 32 ≤ r .op → r .op ≤ 38
+sync-kind i h = ⊎-elim (λ k. absurd (omega arith)) (λ k. k .1) (i .kind)
+
+pub step-of-own : (r : Record) → 16 ≤ r .op → r .op ≤ 22 → stepOfBody r ≡ own (ownOf (r .op) (r .register) (r .number))
+unfolding stepOfBody
+step-of-own r least most =
+    step-own (record { mark = 0; worker = r .worker; op = r .op; register = r .register; number = r .number }) least most
+
+-- a record in range and a worker within its steps
+pub own-ready : {sizes : List ℕ} (v : Worker) (r : Record) → InRange sizes r → 16 ≤ r .op → r .op ≤ 22 → length (v .registers) ≡ 4 → v .place ≤ 128 → OwnReady v r
+own-ready v r i least most registers place =
+    record {
+      ready =
+          record {
+            registers = registers;
+            place = place;
+            least = least;
+            most = most;
+            named = i .named most;
+            operand = i .operand;
+            skip = λ h. i .skip h most .1;
+          };
+      address = i .address;
+    }
+
+-- nothing is stored
+pub kept : (w : ℕ) (copies : Copies) (marks : List Bool) (work : List ℕ) → copies ≡ copiesIn marks work w → WorkerHolds w copies marks work marks work
+kept w copies marks work e = record { mine = sym e; others = λ v n. refl; size = refl; markSize = refl }
+
+module _ (op : ℕ) (outcome : Outcome) (memory : List ℕ) (copies : Copies) (address : ℕ) where
+  by-op : (b : Bool) → eqb op 18 ≡ b → copiesLeft op outcome memory copies address ≡ cond b (copiesAfter outcome memory copies address) copies
+  by-op b e = ap (λ (t : Bool). cond t (copiesAfter outcome memory copies address) copies) e
+
+  pub left-store : op ≡ 18 → copiesLeft op outcome memory copies address ≡ copiesAfter outcome memory copies address
+  left-store e = by-op true (eq-eqb op 18 e)
+
+  pub left-other : (op ≡ 18 → ⊥) → copiesLeft op outcome memory copies address ≡ copies
+  left-other n = by-op false (ne-eqb op 18 n)
+
+pick : (P : Own → Type 0) (b : Bool) {x y : Own} → P x → P y → P (cond b x y)
+pick P true p q = p
+pick P false p q = q
+
+-- an own step that is no store leaves the copies
+own-copies : (memory : List ℕ) (op register number : ℕ) (v : steps.Worker) → eqb op 18 ≡ false → ownStep memory (ownOf op register number) v .copies ≡ v .copies
+unfolding ownOf ownStep
+own-copies memory op register number v e =
+    pick P (eqb op 17) {x = load register number} refl
+    (subst⁻¹ (λ (b : Bool). P (cond b (store register number) rest)) e
+    (pick P (eqb op 19) {x = add register number} refl
+    (pick P (eqb op 20) {x = subtract register number} refl
+    (pick P (eqb op 21) {x = skipZero register number} refl
+    (pick P (eqb op 22) {x = skipNonzero register number} {y = assign register number} refl refl)))))
+  where
+    P : Own → Type 0
+    P o = ownStep memory o v .copies ≡ v .copies
+
+    rest : Own
+    rest =
+        cond (eqb op 19) (add register number)
+        (cond (eqb op 20) (subtract register number)
+        (cond (eqb op 21) (skipZero register number)
+        (cond (eqb op 22) (skipNonzero register number) (assign register number))))
+
+own-held : (memory : List ℕ) (o : Own) (v : steps.Worker) → ownStep memory o v .held ≡ v .held
+unfolding ownStep
+own-held memory (assign r k) v = refl
+own-held memory (load r k) v = refl
+own-held memory (store r k) v = refl
+own-held memory (add r k) v = refl
+own-held memory (subtract r k) v = refl
+own-held memory (skipZero r k) v = refl
+own-held memory (skipNonzero r k) v = refl
+
+-- the parts of an own step make the whole
+pub own-moved :
+    (v : Worker) (r : Record) (w : ℕ) (memory : List ℕ) (marks : List Bool) (work : List ℕ) (marks′ : List Bool) (work′ : List ℕ) (read : ℕ) (m : Moved)
+    → length marks ≡ 64
+    → (r .op ≡ 17 → read ≡ loadWord memory (copiesIn marks work w) (r .number))
+    → Stepped v (r .op) (r .register) (r .number) read m
+    → WorkerHolds w (copiesLeft (r .op) (m .outcome) memory (copiesIn marks work w) (r .number)) marks work marks′ work′
+    → OwnMoved v r w memory marks work marks′ work′ (m .worker)
+own-moved v r w memory marks work marks′ work′ read m eight loads stepped holds =
+    record {
+      worker = λ arrived fate. step arrived fate ∙ ap (λ (cs : Copies). viewed (m .worker) arrived cs fate) (same (eqb (r .op) 18) refl ∙ sym (holds .mine));
+      others = holds .others;
+      size = holds .size;
+      markSize = holds .markSize ∙ eight;
+      registers = stepped .registers;
+      held = sym (ap (λ (u : steps.Worker). u .held) (step false going)) ∙ own-held memory o (viewed v false copies going);
+    }
+  where
+    copies : Copies
+    copies = copiesIn marks work w
+
+    after : Copies
+    after = copiesAfter (m .outcome) memory copies (r .number)
+
+    o : Own
+    o = ownOf (r .op) (r .register) (r .number)
+
+    step : (arrived : Bool) (fate : Fate) → ownStep memory o (viewed v arrived copies fate) ≡ viewed (m .worker) arrived after fate
+    step arrived fate = stepped .step memory arrived copies fate loads
+
+    same : (b : Bool) → eqb (r .op) 18 ≡ b → after ≡ copiesLeft (r .op) (m .outcome) memory copies (r .number)
+    same true e = sym (ap (λ (t : Bool). cond t after copies) e)
+    same false e =
+        sym (ap (λ (u : steps.Worker). u .copies) (step false going))
+        ∙ (own-copies memory (r .op) (r .register) (r .number) (viewed v false copies going) e ∙ sym (ap (λ (t : Bool). cond t after copies) e))

@@ -1,0 +1,64 @@
+-- The record of the step at a worker's place, and what an own step leaves.
+use Prim.Native.Nat.{ℕ, _+_, _*_, _≤_, _<_}
+use mathlib.Core.Bool.{Bool, cond}
+use mathlib.Core.Logic.{_⊎_}
+use mathlib.Core.Path.{_≡_}
+use mathlib.Core.List.{List}
+use lib.Dec.{eqb, ltb}
+use lib.ListN.{length, getD}
+use Rattle.protocol.specs.Format as format
+use Rattle.protocol.specs.Format.{recordFrom, Step, stepOf}
+use Rattle.protocol.specs.Steps.{Fate, ownStep}
+use Rattle.protocol.specs.Pages.{Copies}
+use Rattle.plan.specs.Answer.{bodyOf}
+use Rattle.plan.specs.declared.decode.Record.{Record}
+use Rattle.pages.specs.Copies.{copiesIn}
+use Rattle.worker.specs.Private.{viewed, ownOf, copiesAfter, Ready}
+use Rattle.worker.specs.declared.Worker.{Worker}
+use Rattle.worker.specs.declared.Outcome.{Outcome}
+
+-- "Reaching the end of the steps acts as op 38."
+abbrev pub endBody : Record
+endBody = record { worker = 0; op = 38; register = 0; number = 0 }
+
+-- the record at a place of the worker whose steps are the records from `first` to before `end`
+unfoldable pub fetchedAs : List ℕ → ℕ → ℕ → ℕ → Record
+fetchedAs file first end place =
+    cond (ltb (first + place) end) (bodyOf (recordFrom file (7 * (first + place)))) endBody
+
+-- the step of a record without its mark
+unfoldable pub stepOfBody : Record → Step
+stepOfBody r = stepOf (record { mark = 0; worker = r .worker; op = r .op; register = r .register; number = r .number })
+
+-- what the record of a step is like, by the table's ranges; `sizes` has the size of each barrier
+pub record InRange (sizes : List ℕ) (r : Record) : Type 0 where
+  pub kind : ((16 ≤ r .op) × (r .op ≤ 22)) ⊎ ((32 ≤ r .op) × (r .op ≤ 38))
+  pub named : r .op ≤ 22 → r .register < 4
+  pub address : 17 ≤ r .op → r .op ≤ 18 → r .number ≤ 2046
+  pub operand : 19 ≤ r .op → r .op ≤ 20 → r .number < 4
+  pub skip : 21 ≤ r .op → r .op ≤ 22 → (1 ≤ r .number) × (r .number ≤ 127)
+  pub object : 32 ≤ r .op → r .number ≤ 15
+  pub queue : 34 ≤ r .op → r .op ≤ 37 → r .number ≤ 7
+  pub exit : r .op ≡ 38 → r .number ≡ 0
+  pub size : r .op ≡ 37 → (1 ≤ getD sizes (r .number) 0) × (getD sizes (r .number) 0 ≤ 8)
+
+-- what an own step takes
+pub record OwnReady (v : Worker) (r : Record) : Type 0 where
+  pub ready : Ready v (r .op) (r .register) (r .number)
+  pub address : 17 ≤ r .op → r .op ≤ 18 → r .number ≤ 2046
+
+-- the copies after an own step: only a store, op 18, changes them
+abbrev pub copiesLeft : ℕ → Outcome → List ℕ → Copies → ℕ → Copies
+copiesLeft op outcome memory copies address = cond (eqb op 18) (copiesAfter outcome memory copies address) copies
+
+-- Worker w has made the definition's step, and every other worker has the copies that it had.
+pub record OwnMoved (v : Worker) (r : Record) (w : ℕ) (memory : List ℕ) (marks : List Bool) (work : List ℕ) (marks′ : List Bool) (work′ : List ℕ) (v′ : Worker) : Type 0 where
+  pub worker :
+      (arrived : Bool) (fate : Fate)
+      → ownStep memory (ownOf (r .op) (r .register) (r .number)) (viewed v arrived (copiesIn marks work w) fate)
+      ≡ viewed v′ arrived (copiesIn marks′ work′ w) fate
+  pub others : (u : ℕ) → (u ≡ w → ⊥) → copiesIn marks′ work′ u ≡ copiesIn marks work u
+  pub size : length work′ ≡ length work
+  pub markSize : length marks′ ≡ 64
+  pub registers : length (v′ .registers) ≡ 4
+  pub held : v′ .held ≡ v .held

@@ -1,0 +1,82 @@
+// A worker's next step, and its own steps on the lent bytes.
+use pages::load;
+use pages::store;
+use plan::decode::Record;
+use plan::decode::WIDTH;
+use plan::decode::body;
+use worker::Outcome;
+use worker::Worker;
+ghost use mathlib.Core.Path.{_≡_};
+ghost use Prim.Native.Nat.{_*_, _<_, _≤_};
+ghost use lib.ListN.{length};
+ghost use Rattle.protocol.specs.Pages.{loadWord};
+ghost use Rattle.pages.specs.Copies.{Sizes, copiesIn, WorkerHolds};
+ghost use Rattle.moves.specs.Moves.{fetchedAs, OwnReady, copiesLeft, OwnMoved};
+
+// The record of the step at a worker's place, whose steps are the records from `first` to before `end`.
+pub fn fetch(file: &[u8], first: usize, end: usize, place: u16) -> Record
+    requires { ⌜ (7 * end ≤ length (now file)) × (end ≤ 1033) × (first ≤ end) ⌝ }
+    ensures { λ r. ⌜ r ≡ fetchedAs (now (file .entry)) first end place ⌝ }
+{
+    let at = first + place as usize;
+    if at < end {
+        return body(file, WIDTH * at);
+    }
+    Record {
+        worker: 0,
+        op: 38,
+        register: 0,
+        number: 0,
+    }
+}
+
+// What a load reads; 0 for any other step.
+fn loaded(r: Record, w: usize, memory: &[u8], work: &[u8], copied: &[bool; 64]) -> u16
+    requires { ⌜ Sizes (now memory) (now work) × (w < 8) × (r .op ≡ 17 → r .number ≤ 2046) ⌝ }
+    ensures { λ l. ⌜ (r .op ≡ 17 → l ≡ loadWord (now (memory .entry)) (copiesIn (now (copied .entry)) (now (work .entry)) w) (r .number)) ⌝ }
+{
+    if r.op != 17 {
+        return 0;
+    }
+    load(memory, work, copied, w, r.number as usize)
+}
+
+// Stores what a store hands out; any other step leaves the copies alone.
+fn keep(
+    r: Record,
+    outcome: Outcome,
+    w: usize,
+    memory: &[u8],
+    work: &mut [u8],
+    copied: &mut [bool; 64],
+)
+    requires { ⌜ Sizes (now memory) (now work) × (length (now copied) ≡ 64) × (w < 8) × (r .op ≡ 18 → r .number ≤ 2046) ⌝ }
+    ensures { λ _. ⌜ WorkerHolds w (copiesLeft (r .op) outcome (now (memory .entry)) (copiesIn (now (copied .entry)) (now (work .entry)) w) (r .number)) (now (copied .entry)) (now (work .entry)) (now (copied .exit)) (now (work .exit)) ⌝ }
+{
+    if r.op != 18 {
+        return;
+    }
+    let Outcome::Stores(value) = outcome else {
+        return;
+    };
+    store(memory, work, copied, w, r.number as usize, value);
+}
+
+// One own step, ops 16 to 22.
+pub fn own_move(
+    v: Worker,
+    r: Record,
+    w: usize,
+    memory: &[u8],
+    work: &mut [u8],
+    copied: &mut [bool; 64],
+) -> Worker
+    requires { ⌜ Sizes (now memory) (now work) × (length (now copied) ≡ 64) × (w < 8) × OwnReady v r ⌝ }
+    ensures { λ v′. ⌜ OwnMoved v r w (now (memory .entry)) (now (copied .entry)) (now (work .entry)) (now (copied .exit)) (now (work .exit)) v′ ⌝ }
+{
+    let read = loaded(r, w, memory, work, copied);
+    let moved = v.step(r.op, r.register, r.number, read);
+    let outcome = moved.outcome;
+    keep(r, outcome, w, memory, work, copied);
+    moved.worker
+}

@@ -1,0 +1,74 @@
+-- The laws of the fates that a step frees.
+-- Assumes nothing.
+use Prim.Native.Nat.{ℕ, zero, suc, _<_}
+use native.Mathlib.Omega.{arith}
+use borrow.Author.Tests.{eqb-true, eqb-false}
+use mathlib.Core.Bool.{Bool, true, false, cond, _||_}
+use mathlib.Core.Path.{_≡_, refl, ap, _∙_}
+use mathlib.Core.List.{List, [], _∷_, _++_}
+use lib.Dec.{eqb}
+use lib.ListN.{length, getD, set, drop, length-set}
+use lib.Seq.{getD-set-same, getD-set-other}
+use Rattle.protocol.specs.Rounds.{member}
+use Rattle.protocol.specs.Turns.{noneLeft}
+use Rattle.rules.specs.declared.ruling.Ruling.{Ruling}
+use Rattle.rules.specs.Codes.{codeAfter}
+use Rattle.rules.specs.Rules.{wokenOf, joinedOf}
+use Rattle.rules.specs.Fates.{frees, Settled}
+
+pub length-frees : (ws on : List ℕ) → length (frees ws on) ≡ length on
+unfolding frees
+length-frees [] on = refl
+length-frees (w ∷ ws) on = length-frees ws (set on w 0) ∙ simp length-set
+
+-- 0 stands past the end too
+zero-at : (on : List ℕ) (w : ℕ) → getD (set on w 0) w 0 ≡ 0
+zero-at [] w = refl
+zero-at (k ∷ ks) zero = refl
+zero-at (k ∷ ks) (suc w) = zero-at ks w
+
+getD-zero : (on : List ℕ) (v w : ℕ) → getD (set on v 0) w 0 ≡ cond (eqb w v) 0 (getD on w 0)
+getD-zero on v w = go (eqb w v) refl
+  where
+    go : (b : Bool) → eqb w v ≡ b → getD (set on v 0) w 0 ≡ cond b 0 (getD on w 0)
+    go true e = rw (eqb-true w v e) (zero-at on v)
+    go false e = getD-set-other on v w 0 0 (eqb-false w v e)
+
+pub getD-frees : (ws on : List ℕ) (w : ℕ) → getD (frees ws on) w 0 ≡ cond (member w ws) 0 (getD on w 0)
+unfolding frees member
+getD-frees [] on w = refl
+getD-frees (v ∷ vs) on w = getD-frees vs (set on v 0) w ∙ rw getD-zero (go (eqb w v) (member w vs) (getD on w 0))
+  where
+    go : (a b : Bool) (x : ℕ) → cond b 0 (cond a 0 x) ≡ cond (a || b) 0 x
+    go true true x = refl
+    go true false x = refl
+    go false b x = refl
+
+pub frees-none : (ws on : List ℕ) → noneLeft ws ≡ true → frees ws on ≡ on
+unfolding frees
+frees-none [] on e = refl
+frees-none (w ∷ ws) on e = cc
+
+pub frees-first : (ws on : List ℕ) → 0 < length ws → frees ws on ≡ frees (drop 1 ws) (set on (getD ws 0 0) 0)
+unfolding frees
+frees-first [] on h = absurd (omega arith)
+frees-first (w ∷ ws) on h = refl
+
+-- the holder's fate, stored last
+pub settled :
+    (before : List ℕ) (r : Ruling) (h : ℕ) (qs freed : List ℕ) (code : ℕ)
+    → length before ≡ 8 → h < 8 → freed ≡ frees (wokenOf (r .wakes) qs ++ joinedOf (r .joins) qs) before → code ≡ codeAfter (r .goes)
+    → Settled before r h qs (set freed h code)
+settled before r h qs freed code long fits same e =
+    let moved = wokenOf (r .wakes) qs ++ joinedOf (r .joins) qs in
+    let left : length freed ≡ 8 = ap length same ∙ length-frees moved before ∙ long in
+    record { size = simp length-set left; code = λ w. go w (eqb w h) refl left }
+  where
+    go :
+        (w : ℕ) (b : Bool) → eqb w h ≡ b → length freed ≡ 8
+        → getD (set freed h code) w 0
+        ≡ cond b (codeAfter (r .goes)) (cond (member w (wokenOf (r .wakes) qs ++ joinedOf (r .joins) qs)) 0 (getD before w 0))
+    go w true y left = rw (eqb-true w h y) (getD-set-same freed h code 0 (omega arith) ∙ e)
+    go w false n left =
+        getD-set-other freed h w code 0 (eqb-false w h n)
+        ∙ rw same (getD-frees (wokenOf (r .wakes) qs ++ joinedOf (r .joins) qs) before w)

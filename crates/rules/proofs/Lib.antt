@@ -1,0 +1,4 @@
+pub mod Codes
+pub mod Rulings
+pub mod Moving
+pub mod Freed

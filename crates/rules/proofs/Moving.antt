@@ -1,0 +1,104 @@
+-- The laws of the three lists. Callers want `queue-coded`.
+-- Assumes nothing.
+use Prim.Native.Nat.{ℕ, _+_, _≤_, _<_}
+use native.Mathlib.Omega.{arith}
+use borrow.Author.Tests.{eq-eqb, eqb-true}
+use mathlib.Core.Bool.{Bool, true, false, cond, not, _||_, _&&_}
+use mathlib.Core.Path.{_≡_, refl, ap, sym, _∙_}
+use mathlib.Core.List.{List, [], _∷_, _++_, append-nil}
+use lib.Dec.{eqb}
+use lib.ListN.{length, getD, drop, take}
+use Rattle.protocol.specs.Steps as steps
+use Rattle.protocol.specs.Steps.{waiting}
+use Rattle.protocol.specs.Rounds.{State, workerAt, waitsOn, queueOf, member, keep, without}
+use Rattle.queue.specs.declared.Queue.{Queue}
+use Rattle.queue.specs.List.{listOf, Holds}
+use Rattle.rules.specs.Codes.{fateCode}
+use Rattle.rules.specs.Rules.{wokenOf, joinedOf}
+use Rattle.rules.specs.Moves.{Leaving}
+use Rattle.rules.proofs.Codes.{code-same}
+
+pub length-keep : (t : ℕ → Bool) (ws : List ℕ) → length (keep t ws) ≤ length ws
+unfolding keep
+length-keep t [] = omega arith
+length-keep t (w ∷ ws) = go (t w) (length-keep t ws)
+  where
+    go : (b : Bool) → length (keep t ws) ≤ length ws → length (cond b (w ∷ keep t ws) (keep t ws)) ≤ length (w ∷ ws)
+    go true h = omega arith
+    go false h = omega arith
+
+pub keep-all : (ws : List ℕ) → without [] ws ≡ ws
+unfolding keep member
+keep-all [] = refl
+keep-all (w ∷ ws) = ap (λ (vs : List ℕ). w ∷ vs) (keep-all ws)
+
+-- two tests that agree on a list keep the same
+pub keep-same : (s t : ℕ → Bool) (ws : List ℕ) → ((w : ℕ) → member w ws ≡ true → s w ≡ t w) → keep s ws ≡ keep t ws
+unfolding keep member
+keep-same s t [] same = refl
+keep-same s t (w ∷ ws) same =
+    rw (same w (rw (eq-eqb w w refl)), keep-same s t ws (λ v m. same v (later (eqb v w) m)))
+  where
+    later : (a : Bool) {b : Bool} → b ≡ true → a || b ≡ true
+    later true e = refl
+    later false e = e
+
+off : (b : Bool) → b && false ≡ false
+off true = refl
+off false = refl
+
+member-keep : (t : ℕ → Bool) (ws : List ℕ) (w : ℕ) → member w (keep t ws) ≡ member w ws && t w
+unfolding keep member
+member-keep t [] w = refl
+member-keep t (v ∷ vs) w = go (t v) refl (eqb w v) refl (member-keep t vs w)
+  where
+    go :
+        (b : Bool) → t v ≡ b → (a : Bool) → eqb w v ≡ a → member w (keep t vs) ≡ member w vs && t w
+        → member w (cond b (v ∷ keep t vs) (keep t vs)) ≡ (a || member w vs) && t w
+    go true y true e m = rw (e, eqb-true w v e, y)
+    go true y false e m = rw e m
+    go false n true e m = let z : t w ≡ false = ap t (eqb-true w v e) ∙ n in rw (m, z) (off (member w vs))
+    go false n false e m = m
+
+-- without those who pass a test: those who do not
+pub without-kept : (t : ℕ → Bool) (ws : List ℕ) → without (keep t ws) ws ≡ keep (λ w. not (t w)) ws
+without-kept t ws = keep-same (λ w. not (member w (keep t ws))) (λ w. not (t w)) ws (λ w m. rw (member-keep, m))
+
+pub first-only : (ws : List ℕ) → 0 < length ws → take 1 ws ≡ getD ws 0 0 ∷ []
+first-only [] h = absurd (omega arith)
+first-only (w ∷ ws) h = refl
+
+pub length-one : (ws : List ℕ) → 0 < length ws → length ws ≡ length (drop 1 ws) + 1
+length-one [] h = absurd (omega arith)
+length-one (w ∷ ws) h = omega arith
+
+pub woken-short : (b : Bool) (qs : List ℕ) → length (wokenOf b qs) ≤ length qs
+woken-short true [] = omega arith
+woken-short true (w ∷ ws) = omega arith
+woken-short false qs = omega arith
+
+pub joined-short : (b : Bool) (qs : List ℕ) → length (joinedOf b qs) ≤ length qs
+joined-short true qs = omega arith
+joined-short false qs = omega arith
+
+pub not-both : (wakes joins : Bool) → (wakes ≡ true → joins ≡ false) → joins ≡ true → wakes ≡ false
+not-both true joins apart e = let z : true ≡ false = sym e ∙ apart refl in cc
+not-both false joins apart e = refl
+
+pub queued-short :
+    {waiting : Queue} {wakes joins : Bool} {queued : Queue} {on : List ℕ} {key : ℕ} → Leaving waiting wakes joins queued on key
+    → length (listOf queued) ≤ length (listOf waiting)
+queued-short {waiting} {wakes} {joins} {queued} {on} {key} l = rw (l .queue) (length-keep (λ w. eqb (getD on w 0) key) (listOf waiting))
+
+pub holds-more : {q : Queue} (ws js : List ℕ) → Holds q (ws ++ js) → Holds q (ws ++ (js ++ []))
+holds-more ws js h = rw (append-nil js) h
+
+-- the queue of a condition or a barrier, by the fates' codes
+pub queue-coded :
+    (s : State) (on : List ℕ) (q : steps.Queue)
+    → ((w : ℕ) → member w (s .waiting) ≡ true → getD on w 0 ≡ fateCode (workerAt s w .fate))
+    → keep (λ w. eqb (getD on w 0) (fateCode (waiting q))) (s .waiting) ≡ queueOf s q
+unfolding queueOf
+queue-coded s on q coded =
+    keep-same (λ w. eqb (getD on w 0) (fateCode (waiting q))) (λ w. waitsOn q (workerAt s w .fate)) (s .waiting)
+    (λ w m. ap (λ (k : ℕ). eqb k (fateCode (waiting q))) (coded w m) ∙ code-same (workerAt s w .fate) q)

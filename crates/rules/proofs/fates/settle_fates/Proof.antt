@@ -1,0 +1,28 @@
+-- `settle_fates` meets its contract. Assumes nothing.
+use borrow.Author.Needs.{needs}
+use denote.Ref.{now}
+use Rattle.queue.specs.List.{listOf}
+use Rattle.rules.proofs.Freed.{settled}
+use Rattle.rules.proofs.fates.settle_fates.Statement.{statement}
+use Rattle.rules.proofs.fates.settle_fates.Tie as tie
+
+code-after-requires : tie.Need-code-after-requires
+code-after-requires c κs = search needs
+
+free-moved-requires : tie.Need-free-moved-requires
+free-moved-requires c κs = search needs
+
+mul-on : tie.Need-mul-on
+mul-on c = search needs
+
+element-write-on : tie.Need-element-write-on
+element-write-on c = search needs
+
+returns : tie.Need-returns
+returns c = let s = c .before .before .before in
+    let a = s .args in
+    settled (now (a .on)) (a .r) (a .h) (listOf (a .queued)) _ _ (s .pre .0) (s .pre .1) (c .free-moved .ensures) (c .before .before .code-after .ensures)
+
+pub settle-fates-spec : {M : Type 1} → statement M
+settle-fates-spec =
+    tie.close (tie.spec code-after-requires free-moved-requires mul-on element-write-on returns)

@@ -1,0 +1,59 @@
+-- `rule` meets its contract. Assumes nothing.
+use borrow.Author.Needs.{needs}
+use native.Mathlib.Omega.{arith}
+use Rattle.rules.proofs.Rulings.{by-lock, by-unlock, by-wait, by-signal, by-barrier, by-exit}
+use Rattle.rules.proofs.ruling.rule.Statement.{statement}
+use Rattle.rules.proofs.ruling.rule.Tie as tie
+
+lock-requires : tie.Need-lock-requires
+lock-requires c κs = search needs
+
+returns : tie.Need-returns
+returns c = by-lock (c .before .if1 .taken) (c .lock .ensures _)
+
+unlock-requires : tie.Need-unlock-requires
+unlock-requires c κs = search needs
+
+returns-2 : tie.Need-returns-2
+returns-2 c = by-unlock (c .before .if2 .taken) (c .unlock .ensures _)
+
+wait-requires : tie.Need-wait-requires
+wait-requires c κs = search needs
+
+returns-3 : tie.Need-returns-3
+returns-3 c = by-wait (c .before .if3 .taken) (c .wait .ensures _)
+
+barrier-requires : tie.Need-barrier-requires
+barrier-requires c κs = search needs
+
+returns-4 : tie.Need-returns-4
+returns-4 c = by-barrier (c .before .if4 .taken) (c .barrier .ensures)
+
+exit-requires : tie.Need-exit-requires
+exit-requires c κs = search needs
+
+returns-5 : tie.Need-returns-5
+returns-5 c = by-exit (c .before .if5 .taken) (c .exit .ensures _)
+
+signal-requires : tie.Need-signal-requires
+signal-requires c κs = search needs
+
+returns-6 : tie.Need-returns-6
+returns-6 c = by-signal (omega (arith, c .before .before .before .before .before .before .pre .least)) (omega (arith, c .before .before .before .before .before .before .pre .most)) (c .signal .ensures)
+
+pub rule-spec : {M : Type 1} → statement M
+rule-spec =
+    tie.close
+    (tie.spec
+    lock-requires
+    returns
+    unlock-requires
+    returns-2
+    wait-requires
+    returns-3
+    barrier-requires
+    returns-4
+    exit-requires
+    returns-5
+    signal-requires
+    returns-6)

@@ -1,0 +1,32 @@
+-- What settling the fates takes and ensures.
+use Prim.Native.Nat.{ℕ, _<_}
+use mathlib.Core.Bool.{Bool, true, false, cond}
+use mathlib.Core.Path.{_≡_}
+use mathlib.Core.List.{List, [], _∷_, _++_}
+use lib.Dec.{eqb}
+use lib.ListN.{length, getD, set}
+use Rattle.protocol.specs.Rounds.{member}
+use Rattle.queue.specs.declared.Queue.{Queue}
+use Rattle.queue.specs.List.{listOf, Good, Below}
+use Rattle.rules.specs.declared.ruling.Ruling.{Ruling}
+use Rattle.rules.specs.Codes.{codeAfter}
+use Rattle.rules.specs.Rules.{wokenOf, joinedOf}
+
+-- the fates' codes where none of these workers waits any more
+unfoldable pub frees : List ℕ → List ℕ → List ℕ
+frees [] on = on
+frees (w ∷ ws) on = frees ws (set on w 0)
+
+pub record Freeing (wakes joins : Bool) (queued : Queue) : Type 0 where
+  pub good : Good queued
+  pub below : Below 8 (listOf queued)
+  pub some : wakes ≡ true → 0 < length (listOf queued)
+  pub apart : wakes ≡ true → joins ≡ false
+
+-- the holder has its new fate, those whom the step moves are going, and the others stay as they were
+pub record Settled (before : List ℕ) (r : Ruling) (h : ℕ) (queued after : List ℕ) : Type 0 where
+  pub size : length after ≡ 8
+  pub code :
+      (w : ℕ)
+      → getD after w 0
+      ≡ cond (eqb w h) (codeAfter (r .goes)) (cond (member w (wokenOf (r .wakes) queued ++ joinedOf (r .joins) queued)) 0 (getD before w 0))

@@ -1,0 +1,4 @@
+pub mod Codes
+pub mod Rules
+pub mod Moves
+pub mod Fates

@@ -1,0 +1,74 @@
+// What a ruling makes of the fates' codes.
+use crate::ruling::Goes;
+use crate::ruling::Ruling;
+use queue::Queue;
+ghost use mathlib.Core.Bool.{true};
+ghost use mathlib.Core.Path.{_≡_};
+ghost use mathlib.Core.List.{_++_};
+ghost use Prim.Native.Nat.{_<_};
+ghost use lib.ListN.{length};
+ghost use Rattle.protocol.specs.Rounds.{arrivedAfter};
+ghost use Rattle.queue.specs.List.{listOf, Good, Below};
+ghost use Rattle.rules.specs.Codes.{goesOf, codeAfter};
+ghost use Rattle.rules.specs.Rules.{wokenOf, joinedOf};
+ghost use Rattle.rules.specs.Fates.{frees, Freeing, Settled};
+
+// The code of the holder's fate.
+pub fn code_after(goes: Goes) -> u16
+    ensures { λ r. ⌜ r ≡ codeAfter goes ⌝ }
+{
+    match goes {
+        Goes::Keeps => 0,
+        Goes::Gives => 0,
+        Goes::Leaves(k) => k,
+    }
+}
+
+// Whether the holder has arrived where it goes.
+pub fn arrived_after(goes: Goes) -> bool
+    ensures { λ r. ⌜ r ≡ arrivedAfter (goesOf goes) ⌝ }
+{
+    match goes {
+        Goes::Keeps => true,
+        Goes::Gives => false,
+        Goes::Leaves(k) => if k < 3 { false } else { k % 2 == 0 },
+    }
+}
+
+// None of these workers waits any more.
+fn free(on: &mut [u16; 8], queued: Queue)
+    requires { ⌜ Good queued × Below 8 (listOf queued) ⌝ }
+    ensures { λ r. ⌜ now (on .exit) ≡ frees (listOf queued) (now (on .entry)) ⌝ }
+{
+    let mut left = queued;
+    while !left.is_empty() {
+        let w = left.first() as usize;
+        on[w] = 0;
+        left = left.rest();
+    }
+}
+
+fn free_moved(on: &mut [u16; 8], wakes: bool, joins: bool, queued: Queue)
+    requires { ⌜ Freeing wakes joins queued ⌝ }
+    ensures { λ r. ⌜ now (on .exit) ≡ frees (wokenOf wakes (listOf queued) ++ joinedOf joins (listOf queued)) (now (on .entry)) ⌝ }
+{
+    if joins {
+        free(on, queued);
+        return;
+    }
+    if wakes {
+        let w = queued.first() as usize;
+        on[w] = 0;
+    }
+}
+
+// Those whom the step moves wait no more, and the holder h has its new fate.
+pub fn settle_fates(on: &mut [u16; 8], r: Ruling, h: usize, queued: Queue)
+    requires { ⌜ (length (now on) ≡ 8) × (h < 8) × Freeing (r .wakes) (r .joins) queued ⌝ }
+    ensures { λ u. ⌜ Settled (now (on .entry)) r h (listOf queued) (now (on .exit)) ⌝ }
+{
+    let goes = r.goes;
+    let code = code_after(goes);
+    free_moved(on, r.wakes, r.joins, queued);
+    on[h] = code;
+}

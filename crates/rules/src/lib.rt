@@ -1,0 +1,4 @@
+// The rules of the synchronising steps as data, and what they do to the lists and the fates.
+pub mod fates;
+pub mod lists;
+pub mod ruling;

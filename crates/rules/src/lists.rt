@@ -1,0 +1,115 @@
+// Where a ruling moves workers between the three lists.
+use crate::ruling::Goes;
+use crate::ruling::Ruling;
+use queue::Queue;
+ghost use mathlib.Core.Bool.{true};
+ghost use mathlib.Core.Path.{_≡_};
+ghost use mathlib.Core.List.{_++_};
+ghost use Prim.Native.Nat.{_+_, _≤_, _<_};
+ghost use lib.ListN.{length, drop};
+ghost use Rattle.protocol.specs.Rounds.{staysIn, joinsNext, joinsWaiting, without};
+ghost use Rattle.queue.specs.List.{listOf, Good, Holds};
+ghost use Rattle.rules.specs.Codes.{goesOf};
+ghost use Rattle.rules.specs.Rules.{wokenOf, joinedOf, rulingOf};
+ghost use Rattle.rules.specs.Moves.{Turning, Leaving, Room, ListsMoved};
+
+// This round's list, the next one's, and those who wait.
+pub struct Lists {
+    pub list: Queue,
+    pub next: Queue,
+    pub waiting: Queue,
+}
+
+// The woken worker in front.
+fn wake(rest: Queue, wakes: bool, queued: Queue) -> Queue
+    requires { ⌜ Good rest × (length (listOf rest) < 8) × (wakes ≡ true → 0 < length (listOf queued)) ⌝ }
+    ensures { λ q. ⌜ Holds q (wokenOf wakes (listOf queued) ++ listOf rest) ⌝ }
+{
+    if wakes {
+        return Queue::one(queued.first()).append(rest);
+    }
+    rest
+}
+
+pub fn list_after(list: Queue, goes: Goes, wakes: bool, queued: Queue, h: u64) -> Queue
+    requires { ⌜ Turning list wakes queued h ⌝ }
+    ensures { λ q. ⌜ Holds q (staysIn (goesOf goes) h ++ (wokenOf wakes (listOf queued) ++ drop 1 (listOf list))) ⌝ }
+{
+    let behind = wake(list.rest(), wakes, queued);
+    match goes {
+        Goes::Keeps => behind.cons(h),
+        Goes::Gives => behind,
+        Goes::Leaves(_) => behind,
+    }
+}
+
+// The queued workers behind.
+fn join(next: Queue, joins: bool, queued: Queue) -> Queue
+    requires { ⌜ Good next × Good queued × (length (listOf next) + length (listOf queued) ≤ 8) ⌝ }
+    ensures { λ q. ⌜ Holds q (listOf next ++ joinedOf joins (listOf queued)) ⌝ }
+{
+    if joins {
+        return next.append(queued);
+    }
+    next
+}
+
+pub fn next_after(next: Queue, joins: bool, queued: Queue, goes: Goes, h: u64) -> Queue
+    requires { ⌜ Good next × Good queued × (length (listOf next) + length (listOf queued) < 8) × (h < 16) ⌝ }
+    ensures { λ q. ⌜ Holds q (listOf next ++ (joinedOf joins (listOf queued) ++ joinsNext (goesOf goes) h)) ⌝ }
+{
+    let joined = join(next, joins, queued);
+    match goes {
+        Goes::Keeps => joined,
+        Goes::Gives => joined.append(Queue::one(h)),
+        Goes::Leaves(_) => joined,
+    }
+}
+
+// Those who go on waiting: the queued are those whose fate's code is the key.
+fn stay(waiting: Queue, wakes: bool, joins: bool, queued: Queue, on: &[u16; 8], key: u16) -> Queue
+    requires { ⌜ Leaving waiting wakes joins queued (now on) key ⌝ }
+    ensures { λ q. ⌜ Holds q (without (wokenOf wakes (listOf queued) ++ joinedOf joins (listOf queued)) (listOf waiting)) ⌝ }
+{
+    if joins {
+        return waiting.reject(on, key);
+    }
+    if wakes {
+        return waiting.remove(queued.first());
+    }
+    waiting
+}
+
+// A holder that leaves to wait, which its fate's code says, is the last to wait.
+fn wait_last(waiting: Queue, goes: Goes, h: u64) -> Queue
+    requires { ⌜ Good waiting × (length (listOf waiting) < 8) × (h < 16) ⌝ }
+    ensures { λ q. ⌜ Holds q (listOf waiting ++ joinsWaiting (goesOf goes) h) ⌝ }
+{
+    match goes {
+        Goes::Keeps => waiting,
+        Goes::Gives => waiting,
+        Goes::Leaves(k) => if k < 3 { waiting } else { waiting.push(h) },
+    }
+}
+
+// The three lists after the holder h's step.
+pub fn moved(lists: Lists, r: Ruling, h: u64, queued: Queue, on: &[u16; 8], key: u16) -> Lists
+    requires { ⌜ Room lists r h queued (now on) key ⌝ }
+    ensures { λ after. ⌜ ListsMoved lists (rulingOf r (listOf queued)) h after ⌝ }
+{
+    let goes = r.goes;
+    let wakes = r.wakes;
+    let joins = r.joins;
+    let old = lists.list;
+    let later = lists.next;
+    let waits = lists.waiting;
+    let list = list_after(old, goes, wakes, queued, h);
+    let next = next_after(later, joins, queued, goes, h);
+    let left = stay(waits, wakes, joins, queued, on, key);
+    let waiting = wait_last(left, goes, h);
+    Lists {
+        list,
+        next,
+        waiting,
+    }
+}

@@ -1,0 +1,131 @@
+/* The plan engine's calls for C and C++.
+ *
+ * Link with libtampermauve.a. It needs no other library, and no start-up or shut-down call.
+ *
+ * Rules for every call
+ *   - A byte buffer passes as a pointer and then its length in bytes. The call reads and writes inside that length only.
+ *   - A pointer is never NULL, also where the length is 0. Bytes need no alignment.
+ *   - `file` and `turns` are only read. `memory`, `log`, `report` and `work` are lent: the call may write them, and the
+ *     caller owns them before and after. A lent buffer overlaps no other buffer of the same call.
+ *   - No call keeps a pointer, allocates memory or has a state of its own. Calls at the same time, from several threads,
+ *     are fine as long as no call writes a buffer that another one uses.
+ *   - Every input of these types is answered. A wrong length or wrong content is refused by number, never a fault.
+ *   - A refusal changes no byte of any buffer.
+ */
+#ifndef TAMPERMAUVE_H
+#define TAMPERMAUVE_H
+
+#include <stddef.h>
+#include <stdint.h>
+
+#ifdef __cplusplus
+extern "C" {
+#endif
+
+/* ---- What a call returns: refusal + 256 x index, where index is that of a record of the file, the plan record being 0.
+ *      The index is 0 for the refusals 1, 11, 12 and 13. An accepted call returns 0. */
+
+#define TAMPERMAUVE_ACCEPTED UINT32_C(0)
+
+/* caused by the author of the file */
+#define TAMPERMAUVE_BAD_LENGTH UINT32_C(1)      /* file length 0, not a multiple of 7, or above 7,231 */
+#define TAMPERMAUVE_BAD_MARK UINT32_C(2)        /* a record does not begin with 4D 50 */
+#define TAMPERMAUVE_BAD_PLAN UINT32_C(3)        /* the first record is no plan record within its limits, or op 0 later */
+#define TAMPERMAUVE_BAD_BARRIER UINT32_C(4)     /* barrier record out of order, after a step, or a field out of range */
+#define TAMPERMAUVE_BAD_WORKER UINT32_C(5)      /* a step's worker is not below n, or falls */
+#define TAMPERMAUVE_BAD_OP UINT32_C(6)          /* unknown op */
+#define TAMPERMAUVE_BAD_OPERAND UINT32_C(7)     /* register or number out of the op's range */
+#define TAMPERMAUVE_TOO_MANY_STEPS UINT32_C(8)  /* a worker's 129th step */
+#define TAMPERMAUVE_NO_SIZE UINT32_C(9)         /* a barrier step whose barrier has no record */
+#define TAMPERMAUVE_SKIP_TOO_FAR UINT32_C(10)   /* a skip that lands further than just behind the last step */
+
+/* caused by the host */
+#define TAMPERMAUVE_BAD_BUFFER UINT32_C(11)     /* a lent buffer of another length */
+#define TAMPERMAUVE_TOO_MANY_TURNS UINT32_C(12) /* a turn list above 65,535 bytes */
+
+/* caused by whoever picks the turns */
+#define TAMPERMAUVE_BAD_TURN UINT32_C(13)       /* a turn that names a worker not below n */
+
+/* The two parts of a returned number. */
+static inline uint32_t tampermauve_refusal(uint32_t returned) { return returned % 256u; }
+static inline uint32_t tampermauve_index(uint32_t returned) { return returned / 256u; }
+
+/* ---- Lengths, in bytes */
+
+#define TAMPERMAUVE_MEMORY_LENGTH 2048u
+#define TAMPERMAUVE_LOG_LENGTH 8256u
+#define TAMPERMAUVE_REPORT_LENGTH 16u
+#define TAMPERMAUVE_WORK_LENGTH 32768u
+
+#define TAMPERMAUVE_FILE_LIMIT 7231u   /* the longest file that is not refused for its length */
+#define TAMPERMAUVE_TURNS_LIMIT 65535u /* the longest list of turns; a turn is one byte */
+#define TAMPERMAUVE_RECORD_LENGTH 7u   /* a record of the file */
+#define TAMPERMAUVE_ENTRY_LENGTH 8u    /* a record of the log */
+#define TAMPERMAUVE_WORKERS_LIMIT 8u   /* workers of a plan, and fates in a report */
+
+/* ---- The report: offsets of its parts. Two-byte numbers are low byte first. */
+
+#define TAMPERMAUVE_REPORT_END 0u     /* one byte, an end code */
+#define TAMPERMAUVE_REPORT_WORKERS 1u /* one byte, n */
+#define TAMPERMAUVE_REPORT_MOVES 2u   /* two bytes, the turns that made a move */
+#define TAMPERMAUVE_REPORT_ROUNDS 4u  /* two bytes, the rounds completed */
+#define TAMPERMAUVE_REPORT_RECORDS 6u /* two bytes, the records in the log */
+#define TAMPERMAUVE_REPORT_FATES 8u   /* eight bytes, a fate code for each of workers 0 to 7 */
+
+/* end codes */
+#define TAMPERMAUVE_END_GOING 0u
+#define TAMPERMAUVE_END_FINISHED 1u
+#define TAMPERMAUVE_END_STUCK 2u
+
+/* fate codes */
+#define TAMPERMAUVE_FATE_GOING 0u
+#define TAMPERMAUVE_FATE_EXITED 1u
+#define TAMPERMAUVE_FATE_FAILED 2u
+#define TAMPERMAUVE_FATE_ON_CONDITION 3u
+#define TAMPERMAUVE_FATE_AT_BARRIER 4u
+#define TAMPERMAUVE_FATE_NO_WORKER 255u
+
+/* ---- A record of the log: offsets of its parts. */
+
+#define TAMPERMAUVE_ENTRY_MARK 0u    /* two bytes, 4D 4C */
+#define TAMPERMAUVE_ENTRY_ROUND 2u   /* two bytes */
+#define TAMPERMAUVE_ENTRY_WORKER 4u
+#define TAMPERMAUVE_ENTRY_OP 5u
+#define TAMPERMAUVE_ENTRY_NUMBER 6u
+#define TAMPERMAUVE_ENTRY_OUTCOME 7u /* see the outcomes below */
+
+/* Outcomes. Lock and unlock: the count after. Signal and broadcast: the woken worker, or NONE. Barrier: QUEUED, or the size.
+ * Wait and exit: NONE. A failure: FAILED, with the op as met. */
+#define TAMPERMAUVE_OUTCOME_QUEUED 0u
+#define TAMPERMAUVE_OUTCOME_FAILED 254u
+#define TAMPERMAUVE_OUTCOME_NONE 255u
+
+/* The two-byte number at an offset of a report or of a record of the log. */
+static inline uint32_t tampermauve_word(const uint8_t *bytes, size_t at) {
+    return (uint32_t)bytes[at] + 256u * (uint32_t)bytes[at + 1u];
+}
+
+/* ---- Calls */
+
+/* Checks a plan file: 0 if it is accepted, else one of the refusals 1 to 10 with its index. Nothing is written.
+ * `file` may have any length. */
+uint32_t tampermauve_check(const uint8_t *file, size_t file_length);
+
+/* Runs a plan file by a list of turns. It tests 11, 12, the file's 1 to 10, then 13 over all turns, before it writes a byte.
+ *
+ *   memory  exactly TAMPERMAUVE_MEMORY_LENGTH bytes: in, the starting memory; out, the shared memory
+ *   log     exactly TAMPERMAUVE_LOG_LENGTH bytes: out, its records and then zeros
+ *   report  exactly TAMPERMAUVE_REPORT_LENGTH bytes: out, the report
+ *   work    exactly TAMPERMAUVE_WORK_LENGTH bytes: out, all zero
+ *
+ * What log, report and work hold before the call does not matter. After a refusal all four are as they were.
+ * `turns` may be empty; each byte names a worker. */
+uint32_t tampermauve_run(const uint8_t *file, size_t file_length, const uint8_t *turns, size_t turns_length, uint8_t *memory,
+                         size_t memory_length, uint8_t *log, size_t log_length, uint8_t *report, size_t report_length,
+                         uint8_t *work, size_t work_length);
+
+#ifdef __cplusplus
+}
+#endif
+
+#endif

@@ -1,0 +1,539 @@
+/* tampermauve_check on accepted and refused files of every number from 1 to 10. The expected numbers are written from
+ * document 01, "Plan file" and "Who can cause which refusal", and not from the code. */
+#include <stdio.h>
+#include <stdlib.h>
+#include <string.h>
+
+#include "plan_file.h"
+#include "tampermauve.h"
+
+static unsigned checks = 0;
+static unsigned failures = 0;
+
+/* Calls the check on bytes that stand alone on the heap, so that a read outside of them is seen by valgrind. */
+static uint32_t call(const uint8_t *bytes, size_t length) {
+    uint8_t *copy = malloc(length == 0 ? 1 : length);
+    uint32_t returned;
+    if (copy == NULL) {
+        fprintf(stderr, "no memory\n");
+        exit(2);
+    }
+    memcpy(copy, bytes, length);
+    returned = tampermauve_check(copy, length);
+    checks++;
+    if (memcmp(copy, bytes, length) != 0) {
+        printf("FAILED: a check changed the file\n");
+        failures++;
+    }
+    free(copy);
+    return returned;
+}
+
+static void expect_bytes(const char *what, const uint8_t *bytes, size_t length, unsigned refusal, unsigned index) {
+    uint32_t returned = call(bytes, length);
+    if (returned != (uint32_t)refusal + 256u * (uint32_t)index || tampermauve_refusal(returned) != refusal ||
+        tampermauve_index(returned) != index) {
+        printf("FAILED: %s: expected refusal %u at record %u, got refusal %lu at record %lu\n", what, refusal, index,
+               (unsigned long)tampermauve_refusal(returned), (unsigned long)tampermauve_index(returned));
+        failures++;
+    }
+}
+
+static void refuses(const char *what, const struct plan_file *f, unsigned refusal, unsigned index) {
+    expect_bytes(what, f->bytes, f->length, refusal, index);
+}
+
+static void accepts(const char *what, const struct plan_file *f) {
+    refuses(what, f, 0, 0);
+}
+
+/* Case 1 of the paper. */
+static void race(struct plan_file *f) {
+    unsigned w;
+    plan_begin(f, 2);
+    for (w = 0; w < 2; w++) {
+        plan_add(f, w, OP_LOAD, 0, w == 0 ? 2 : 0);
+        plan_add(f, w, OP_SKIP_NONZERO, 0, 2);
+        plan_add(f, w, OP_SET, 1, 1);
+        plan_add(f, w, OP_STORE, 1, w == 0 ? 0 : 2);
+    }
+}
+
+/* The largest file: the plan record, eight barrier records, 128 steps for each of eight workers. 1,033 records. */
+static void largest(struct plan_file *f) {
+    unsigned k;
+    plan_begin(f, 8);
+    for (k = 0; k < 8; k++) {
+        plan_size(f, k, k + 1);
+    }
+    for (k = 0; k < 8; k++) {
+        plan_fill(f, k, 128);
+    }
+}
+
+static void accepted(void) {
+    struct plan_file f;
+    unsigned k;
+    for (k = 1; k <= 8; k++) {
+        plan_begin(&f, k);
+        accepts("a plan record alone", &f);
+    }
+    race(&f);
+    accepts("case 1", &f);
+    plan_begin(&f, 3);
+    plan_fill(&f, 1, 2);
+    accepts("workers without steps", &f);
+    plan_begin(&f, 1);
+    for (k = 0; k < 8; k++) {
+        plan_size(&f, k, 8);
+    }
+    plan_sync(&f, 0, OP_BARRIER, 7);
+    accepts("eight barriers, their sizes above n", &f);
+    plan_begin(&f, 2);
+    plan_size(&f, 2, 1);
+    plan_size(&f, 5, 8);
+    plan_sync(&f, 0, OP_BARRIER, 5);
+    plan_sync(&f, 1, OP_BARRIER, 2);
+    accepts("barriers 2 and 5 alone", &f);
+    plan_begin(&f, 1);
+    plan_size(&f, 3, 2);
+    accepts("a size that no step uses", &f);
+}
+
+/* 1: "file length 0, not a multiple of 7, or above 7,231" */
+static void lengths(void) {
+    struct plan_file f;
+    size_t k;
+    largest(&f);
+    if (f.length != 7231) {
+        printf("FAILED: the largest file has %lu bytes\n", (unsigned long)f.length);
+        failures++;
+    }
+    accepts("7,231 bytes", &f);
+    for (k = 0; k < f.length; k++) {
+        if (k % 7 != 0) {
+            expect_bytes("not a multiple of 7", f.bytes, k, 1, 0);
+        }
+    }
+    expect_bytes("no bytes", f.bytes, 0, 1, 0);
+    plan_add(&f, 7, OP_EXIT, 0, 0);
+    for (k = 7232; k <= 7238; k++) {
+        expect_bytes("above 7,231 bytes", f.bytes, k, 1, 0);
+    }
+    plan_unmark(&f, 0);
+    refuses("7,238 bytes without a mark", &f, 1, 0);
+    race(&f);
+    plan_unmark(&f, 0);
+    expect_bytes("a length before a mark", f.bytes, f.length - 1, 1, 0);
+}
+
+/* 2: "mark" */
+static void marks(void) {
+    struct plan_file f;
+    unsigned k;
+    for (k = 0; k < 9; k++) {
+        race(&f);
+        f.bytes[7 * k] = 0x4C;
+        refuses("first byte of a mark", &f, 2, k);
+        race(&f);
+        f.bytes[7 * k + 1] = 0x4C;
+        refuses("second byte of a mark", &f, 2, k);
+        race(&f);
+        f.bytes[7 * k] = 0x50;
+        f.bytes[7 * k + 1] = 0x4D;
+        refuses("a mark's bytes exchanged", &f, 2, k);
+    }
+    largest(&f);
+    plan_unmark(&f, 1032);
+    refuses("the mark of record 1,032", &f, 2, 1032);
+    plan_begin(&f, 9);
+    plan_unmark(&f, 0);
+    refuses("2 before 3 in the first record", &f, 2, 0);
+    plan_begin(&f, 1);
+    plan_unmark(&f, plan_add(&f, 0, OP_PLAN, 0, 0));
+    refuses("2 before 3 later", &f, 2, 1);
+    plan_begin(&f, 1);
+    plan_unmark(&f, plan_size(&f, 9, 9));
+    refuses("2 before 4", &f, 2, 1);
+    plan_begin(&f, 1);
+    plan_unmark(&f, plan_sync(&f, 7, 99, 0));
+    refuses("2 before 6 and 5", &f, 2, 1);
+    plan_begin(&f, 1);
+    plan_sync(&f, 0, 99, 0);
+    plan_unmark(&f, plan_sync(&f, 0, OP_EXIT, 0));
+    refuses("an earlier record's 6 before a later one's 2", &f, 6, 1);
+    plan_begin(&f, 1);
+    plan_unmark(&f, plan_sync(&f, 0, OP_EXIT, 0));
+    plan_sync(&f, 0, 99, 0);
+    refuses("an earlier record's 2 before a later one's 6", &f, 2, 1);
+}
+
+/* 3: "first record isn't a plan record within its limits, or op 0 later" */
+static void plans(void) {
+    struct plan_file f;
+    unsigned k;
+    plan_begin(&f, 8);
+    accepts("n 8", &f);
+    plan_begin(&f, 9);
+    refuses("n 9", &f, 3, 0);
+    plan_begin(&f, 0);
+    refuses("n 0", &f, 3, 0);
+    plan_begin(&f, 255);
+    refuses("n 255", &f, 3, 0);
+    for (k = 4; k < 7; k++) {
+        plan_begin(&f, 1);
+        f.bytes[k] = 1;
+        refuses("a plan record with a register or a number", &f, 3, 0);
+    }
+    for (k = 1; k < 256; k++) {
+        f.length = 0;
+        plan_add(&f, 1, k, 0, 0);
+        refuses("a first record of another op", &f, 3, 0);
+    }
+    plan_begin(&f, 1);
+    plan_add(&f, 1, OP_PLAN, 0, 0);
+    refuses("a second plan record", &f, 3, 1);
+    plan_begin(&f, 1);
+    plan_size(&f, 0, 1);
+    plan_add(&f, 1, OP_PLAN, 0, 0);
+    refuses("a plan record behind a barrier record", &f, 3, 2);
+    race(&f);
+    k = plan_add(&f, 200, OP_PLAN, 200, 60000);
+    refuses("op 0 behind the steps", &f, 3, k);
+}
+
+/* 4: "barrier record out of order, after a step, or with any field out of range" */
+static void barriers(void) {
+    struct plan_file f;
+    unsigned k;
+    plan_begin(&f, 1);
+    plan_size(&f, 1, 1);
+    plan_size(&f, 0, 1);
+    refuses("barriers 1, 0", &f, 4, 2);
+    plan_begin(&f, 1);
+    plan_size(&f, 4, 1);
+    plan_size(&f, 4, 1);
+    refuses("a second record of a barrier", &f, 4, 2);
+    plan_begin(&f, 1);
+    plan_size(&f, 0, 1);
+    plan_size(&f, 5, 1);
+    plan_size(&f, 3, 1);
+    refuses("barriers 0, 5, 3", &f, 4, 3);
+    plan_begin(&f, 1);
+    plan_size(&f, 0, 1);
+    plan_size(&f, 7, 1);
+    plan_size(&f, 0, 1);
+    refuses("barriers 0, 7, 0", &f, 4, 3);
+    plan_begin(&f, 1);
+    plan_sync(&f, 0, OP_EXIT, 0);
+    plan_size(&f, 0, 1);
+    refuses("a barrier record after a step", &f, 4, 2);
+    plan_begin(&f, 1);
+    plan_size(&f, 0, 1);
+    plan_sync(&f, 0, OP_EXIT, 0);
+    plan_size(&f, 1, 1);
+    refuses("an ascending barrier record after a step", &f, 4, 3);
+    for (k = 1; k < 256; k++) {
+        plan_begin(&f, 8);
+        plan_add(&f, k, OP_SIZE, 0, 1);
+        refuses("the worker byte of a barrier record", &f, 4, 1);
+    }
+    for (k = 0; k < 256; k++) {
+        plan_begin(&f, 1);
+        plan_size(&f, k, 1);
+        refuses("a barrier's number", &f, k < 8 ? 0 : 4, k < 8 ? 0 : 1);
+    }
+    for (k = 0; k < 300; k++) {
+        plan_begin(&f, 1);
+        plan_size(&f, 0, k);
+        refuses("a barrier's size", &f, k >= 1 && k <= 8 ? 0 : 4, k >= 1 && k <= 8 ? 0 : 1);
+    }
+    plan_begin(&f, 1);
+    plan_size(&f, 0, 65535);
+    refuses("a barrier's size 65,535", &f, 4, 1);
+}
+
+/* the table: op, largest register, smallest and largest number */
+static const unsigned table[14][4] = {
+    {16, 3, 0, 65535}, {17, 3, 0, 2046}, {18, 3, 0, 2046}, {19, 3, 0, 3}, {20, 3, 0, 3}, {21, 3, 1, 127}, {22, 3, 1, 127},
+    {32, 0, 0, 15},    {33, 0, 0, 15},   {34, 0, 0, 7},    {35, 0, 0, 7}, {36, 0, 0, 7}, {37, 0, 0, 7},   {38, 0, 0, 0}};
+
+static int known(unsigned op) {
+    unsigned k;
+    for (k = 0; k < 14; k++) {
+        if (table[k][0] == op) {
+            return 1;
+        }
+    }
+    return 0;
+}
+
+/* A step behind the sizes of all barriers, with enough steps behind it for any skip. */
+static void expect_operand(unsigned row, unsigned reg, unsigned number) {
+    struct plan_file f;
+    unsigned b;
+    int in_range = reg <= table[row][1] && number >= table[row][2] && number <= table[row][3];
+    plan_begin(&f, 1);
+    for (b = 0; b < 8; b++) {
+        plan_size(&f, b, 1);
+    }
+    plan_add(&f, 0, table[row][0], reg, number);
+    plan_fill(&f, 0, 127);
+    refuses("an operand", &f, in_range ? 0 : 7, in_range ? 0 : 9);
+}
+
+/* 6: "unknown op"; 7: "operand out of range" */
+static void steps(void) {
+    struct plan_file f;
+    unsigned k, r, op;
+    for (op = 2; op < 256; op++) {
+        if (!known(op)) {
+            plan_begin(&f, 1);
+            plan_add(&f, 0, op, 0, 1);
+            refuses("an unknown op", &f, 6, 1);
+            plan_begin(&f, 1);
+            plan_add(&f, 1, op, 200, 60000);
+            refuses("6 before 5 and 7", &f, 6, 1);
+        }
+    }
+    for (k = 0; k < 14; k++) {
+        for (r = 0; r < 256; r++) {
+            expect_operand(k, r, table[k][2]);
+        }
+        for (r = 0; r < 300; r++) {
+            expect_operand(k, 0, r);
+            expect_operand(k, 3, r);
+        }
+        expect_operand(k, 0, table[k][3]);
+        if (table[k][3] < 65535) {
+            expect_operand(k, 0, table[k][3] + 1);
+        }
+        expect_operand(k, 0, 65535);
+        expect_operand(k, 0, 256 * table[k][2]);
+    }
+    plan_begin(&f, 1);
+    plan_add(&f, 0, OP_LOAD, 3, 2046);
+    plan_add(&f, 0, OP_STORE, 3, 2046);
+    accepts("address 2,046", &f);
+    plan_begin(&f, 1);
+    plan_add(&f, 0, OP_LOAD, 0, 2047);
+    refuses("load at 2,047", &f, 7, 1);
+    plan_begin(&f, 1);
+    plan_add(&f, 0, OP_STORE, 0, 2047);
+    refuses("store at 2,047", &f, 7, 1);
+}
+
+/* 5: "step's worker not below n, or falling"; 8: "a worker's 129th step"; 9: "barrier without a size" */
+static void order(void) {
+    struct plan_file f;
+    unsigned k;
+    for (k = 0; k < 256; k++) {
+        plan_begin(&f, 3);
+        plan_sync(&f, k, OP_EXIT, 0);
+        refuses("a step's worker, n being 3", &f, k < 3 ? 0 : 5, k < 3 ? 0 : 1);
+    }
+    plan_begin(&f, 8);
+    plan_sync(&f, 8, OP_EXIT, 0);
+    refuses("worker 8 of 8", &f, 5, 1);
+    plan_begin(&f, 3);
+    plan_sync(&f, 0, OP_EXIT, 0);
+    plan_sync(&f, 2, OP_EXIT, 0);
+    plan_sync(&f, 1, OP_EXIT, 0);
+    refuses("workers 0, 2, 1", &f, 5, 3);
+    plan_begin(&f, 3);
+    plan_sync(&f, 1, OP_EXIT, 0);
+    plan_sync(&f, 0, OP_EXIT, 0);
+    refuses("workers 1, 0", &f, 5, 2);
+
+    plan_begin(&f, 1);
+    plan_fill(&f, 0, 128);
+    accepts("128 steps", &f);
+    plan_fill(&f, 0, 1);
+    refuses("the 129th step", &f, 8, 129);
+    plan_begin(&f, 3);
+    plan_size(&f, 0, 1);
+    plan_fill(&f, 0, 128);
+    plan_fill(&f, 2, 128);
+    accepts("128 steps of workers 0 and 2", &f);
+    plan_fill(&f, 2, 1);
+    refuses("the 129th step of worker 2", &f, 8, 258);
+    plan_begin(&f, 2);
+    plan_fill(&f, 0, 129);
+    plan_fill(&f, 1, 1);
+    refuses("the 129th step with steps behind it", &f, 8, 129);
+
+    plan_begin(&f, 2);
+    plan_fill(&f, 0, 128);
+    plan_sync(&f, 1, OP_EXIT, 0);
+    plan_sync(&f, 0, OP_EXIT, 0);
+    refuses("5 before 8", &f, 5, 130);
+    plan_begin(&f, 1);
+    plan_add(&f, 1, OP_LOAD, 9, 9999);
+    refuses("5 before 7", &f, 5, 1);
+    plan_begin(&f, 1);
+    plan_fill(&f, 0, 128);
+    plan_add(&f, 0, OP_LOAD, 9, 9999);
+    refuses("8 before 7", &f, 8, 129);
+    plan_begin(&f, 1);
+    plan_fill(&f, 0, 128);
+    plan_sync(&f, 0, OP_BARRIER, 0);
+    refuses("8 before 9", &f, 8, 129);
+    plan_begin(&f, 1);
+    plan_fill(&f, 0, 128);
+    plan_add(&f, 0, 99, 0, 0);
+    refuses("6 before 8", &f, 6, 129);
+
+    for (k = 0; k < 8; k++) {
+        unsigned b;
+        plan_begin(&f, 1);
+        plan_sync(&f, 0, OP_BARRIER, k);
+        refuses("a barrier without any size", &f, 9, 1);
+        plan_begin(&f, 1);
+        for (b = 0; b < 8; b++) {
+            if (b != k) {
+                plan_size(&f, b, 1);
+            }
+        }
+        plan_sync(&f, 0, OP_BARRIER, k);
+        refuses("a barrier without its size", &f, 9, 8);
+    }
+    plan_begin(&f, 1);
+    plan_sync(&f, 0, OP_BARRIER, 8);
+    refuses("7 before 9: the number", &f, 7, 1);
+    plan_begin(&f, 1);
+    plan_add(&f, 0, OP_BARRIER, 1, 0);
+    refuses("7 before 9: the register", &f, 7, 1);
+    plan_begin(&f, 1);
+    plan_sync(&f, 1, OP_BARRIER, 0);
+    refuses("5 before 9", &f, 5, 1);
+}
+
+/* 10: "skip too far", "over all steps, the first such skip giving the index" */
+static void skips(void) {
+    struct plan_file f;
+    unsigned op, k;
+    for (op = OP_SKIP_ZERO; op <= OP_SKIP_NONZERO; op++) {
+        for (k = 1; k <= 127; k++) {
+            plan_begin(&f, 2);
+            plan_size(&f, 0, 1);
+            plan_add(&f, 0, op, 0, k);
+            plan_fill(&f, 0, k);
+            plan_fill(&f, 1, 128);
+            accepts("a skip of the last step", &f);
+            plan_begin(&f, 2);
+            plan_size(&f, 0, 1);
+            plan_add(&f, 0, op, 0, k);
+            plan_fill(&f, 0, k - 1);
+            plan_fill(&f, 1, 128);
+            refuses("a skip of one more", &f, 10, 2);
+        }
+        plan_begin(&f, 1);
+        plan_fill(&f, 0, 5);
+        plan_add(&f, 0, op, 0, 1);
+        refuses("a skip as the last step", &f, 10, 6);
+        plan_begin(&f, 1);
+        plan_fill(&f, 0, 5);
+        plan_add(&f, 0, op, 0, 1);
+        plan_fill(&f, 0, 1);
+        accepts("a skip as the last step but one", &f);
+        plan_begin(&f, 8);
+        plan_fill(&f, 0, 3);
+        plan_add(&f, 7, op, 0, 2);
+        plan_fill(&f, 7, 1);
+        refuses("a skip of the last worker", &f, 10, 4);
+    }
+    plan_begin(&f, 2);
+    plan_add(&f, 0, OP_SKIP_ZERO, 0, 1);
+    plan_fill(&f, 0, 1);
+    plan_add(&f, 0, OP_SKIP_ZERO, 0, 2);
+    plan_fill(&f, 0, 1);
+    plan_add(&f, 1, OP_SKIP_NONZERO, 0, 9);
+    refuses("the first such skip", &f, 10, 3);
+
+    /* 10 comes last, whatever record it stands in */
+    plan_begin(&f, 1);
+    plan_add(&f, 0, OP_SKIP_ZERO, 0, 127);
+    plan_unmark(&f, plan_sync(&f, 0, OP_EXIT, 0));
+    refuses("2 before 10", &f, 2, 2);
+    plan_begin(&f, 1);
+    plan_add(&f, 0, OP_SKIP_ZERO, 0, 127);
+    plan_add(&f, 0, OP_PLAN, 0, 0);
+    refuses("3 before 10", &f, 3, 2);
+    plan_begin(&f, 1);
+    plan_add(&f, 0, OP_SKIP_ZERO, 0, 127);
+    plan_size(&f, 0, 1);
+    refuses("4 before 10", &f, 4, 2);
+    plan_begin(&f, 1);
+    plan_add(&f, 0, OP_SKIP_ZERO, 0, 127);
+    plan_sync(&f, 0, 99, 0);
+    refuses("6 before 10", &f, 6, 2);
+    plan_begin(&f, 1);
+    plan_add(&f, 0, OP_SKIP_ZERO, 0, 127);
+    plan_sync(&f, 1, OP_EXIT, 0);
+    refuses("5 before 10", &f, 5, 2);
+    plan_begin(&f, 1);
+    plan_add(&f, 0, OP_SKIP_ZERO, 0, 128);
+    refuses("7 before 10 in one record", &f, 7, 1);
+    plan_begin(&f, 1);
+    plan_add(&f, 0, OP_SKIP_ZERO, 0, 127);
+    plan_sync(&f, 0, OP_EXIT, 1);
+    refuses("7 before 10", &f, 7, 2);
+    plan_begin(&f, 1);
+    plan_fill(&f, 0, 127);
+    plan_add(&f, 0, OP_SKIP_ZERO, 0, 127);
+    plan_fill(&f, 0, 1);
+    refuses("8 before 10", &f, 8, 129);
+    plan_begin(&f, 1);
+    plan_add(&f, 0, OP_SKIP_ZERO, 0, 127);
+    plan_sync(&f, 0, OP_BARRIER, 0);
+    refuses("9 before 10", &f, 9, 2);
+    largest(&f);
+    f.bytes[7 * 1032 + 3] = OP_SKIP_ZERO;
+    f.bytes[7 * 1032 + 5] = 1;
+    f.bytes[7 * 1032 + 6] = 0;
+    refuses("10 in record 1,032", &f, 10, 1032);
+}
+
+/* The header's names have the paper's numbers. */
+static void names(void) {
+    static const uint32_t refusals[14] = {TAMPERMAUVE_ACCEPTED,
+                                          TAMPERMAUVE_BAD_LENGTH,
+                                          TAMPERMAUVE_BAD_MARK,
+                                          TAMPERMAUVE_BAD_PLAN,
+                                          TAMPERMAUVE_BAD_BARRIER,
+                                          TAMPERMAUVE_BAD_WORKER,
+                                          TAMPERMAUVE_BAD_OP,
+                                          TAMPERMAUVE_BAD_OPERAND,
+                                          TAMPERMAUVE_TOO_MANY_STEPS,
+                                          TAMPERMAUVE_NO_SIZE,
+                                          TAMPERMAUVE_SKIP_TOO_FAR,
+                                          TAMPERMAUVE_BAD_BUFFER,
+                                          TAMPERMAUVE_TOO_MANY_TURNS,
+                                          TAMPERMAUVE_BAD_TURN};
+    uint32_t k;
+    for (k = 0; k < 14; k++) {
+        checks++;
+        if (refusals[k] != k) {
+            printf("FAILED: the name of refusal %lu\n", (unsigned long)k);
+            failures++;
+        }
+    }
+}
+
+int main(void) {
+    names();
+    accepted();
+    lengths();
+    marks();
+    plans();
+    barriers();
+    steps();
+    order();
+    skips();
+    if (failures > 0) {
+        printf("check: %u of %u checks failed\n", failures, checks);
+        return 1;
+    }
+    printf("check: %u checks passed\n", checks);
+    return 0;
+}
