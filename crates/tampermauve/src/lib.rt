@@ -1,8 +1,16 @@
 // The host calls.
+mod admit;
+
+use crate::admit::Lengths;
+use crate::admit::admit;
+use ending::Counts;
+use ending::close_buffers;
+use engine::play::play;
 use plan::answer::code;
 use plan::check::check;
 ghost use mathlib.Core.Path.{_≡_};
 ghost use Rattle.protocol.specs.Calls.{checkCode};
+ghost use Rattle.tampermauve.specs.Run.{lent, Ran};
 
 // 0 for a plan file that is accepted, else the refusal + 256 × the index of its record.
 #[no_mangle]
@@ -12,4 +20,41 @@ pub extern "C" fn tampermauve_check(file: &[u8]) -> u32
     let checked = check(file);
     let verdict = checked.verdict;
     code(verdict)
+}
+
+// Plays the turns. 0 for a run that is accepted, else as tampermauve_check, with no byte changed.
+#[no_mangle]
+pub extern "C" fn tampermauve_run(
+    file: &[u8],
+    turns: &[u8],
+    memory: &mut [u8],
+    log: &mut [u8],
+    report: &mut [u8],
+    work: &mut [u8],
+) -> u32
+    ensures { λ r. ⌜ Ran (now (file .entry)) (now (turns .entry)) (lent (now (memory .entry)) (now (log .entry)) (now (report .entry)) (now (work .entry))) r (lent (now (memory .exit)) (now (log .exit)) (now (report .exit)) (now (work .exit))) ⌝ }
+{
+    let lengths = Lengths {
+        memory: memory.len(),
+        log: log.len(),
+        report: report.len(),
+        work: work.len(),
+    };
+    let admitted = admit(file, turns, lengths);
+    if admitted.code != 0 {
+        return admitted.code;
+    }
+    let workers = admitted.layout.workers;
+    let sizes = admitted.layout.sizes;
+    let firsts = admitted.layout.firsts;
+    let played = play(file, workers, &sizes, &firsts, turns, memory, log, work);
+    let t = played.tally;
+    let fates = played.fates;
+    let counts = Counts {
+        moves: t.moves,
+        rounds: t.rounds,
+        records: t.records,
+    };
+    close_buffers(t.lists.list, counts, &fates, workers, log, report, work);
+    0
 }

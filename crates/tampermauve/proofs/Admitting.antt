@@ -1,0 +1,97 @@
+-- The tests of a run.
+use Prim.Native.Nat.{ℕ, suc, _+_, _<_, _≤_}
+use mathlib.Core.Bool.{Bool, true, false, _||_}
+use mathlib.Core.Path.{_≡_, refl, sym, ap, _∙_}
+use mathlib.Core.List.{List}
+use native.Mathlib.Omega.{arith}
+use native.Mathlib.Numerals.{add-one}
+use lib.Dec.{leb, ltb}
+use lib.ListN.{length, getD, drop, drop-of-length-le}
+use lib.Seq.{drop-cons}
+use Rattle.protocol.specs.Format.{planOf, records}
+use Rattle.protocol.specs.Refusals.{Refusal, badLength, badMark, badPlan, badBarrier, badWorker, badOp, badOperand, tooManySteps, noSize, skipTooFar, badBuffer, tooManyTurns, badTurn, numberOf, Verdict, accepted, refused, codeOf, check}
+use Rattle.protocol.specs.Turns.{workersOf}
+use Rattle.protocol.specs.Calls.{both, strays, turnLimit}
+use Rattle.protocol.proofs.Accepted.{accepted-file, workers-of}
+use Rattle.plan.specs.Answer.{verdictOf}
+use Rattle.plan.specs.Checking.{LaidOut, CheckedAs}
+use Rattle.plan.specs.declared.check.Checked.{Checked}
+use Rattle.plan.specs.declared.check.Layout.{Layout}
+use Rattle.tampermauve.specs.Run.{misfitBy, verdictBy, Admits}
+use Rattle.tampermauve.specs.declared.admit.Lengths.{Lengths}
+use Rattle.tampermauve.specs.declared.admit.Admitted.{Admitted}
+
+-- turns, one at a time
+
+behind : (a b c : Bool) → a || (b || c) ≡ (a || b) || c
+behind true b c = refl
+behind false b c = refl
+
+pub stray-step : (n i : ℕ) (turns : List ℕ) (bad : Bool) → i < length turns
+    → bad || strays n (drop i turns) ≡ (bad || leb n (getD turns i 0)) || strays n (drop (i + 1) turns)
+unfolding strays
+stray-step n i turns bad h =
+    ap (λ (ts : List ℕ). bad || strays n ts) (drop-cons turns i 0 h)
+    ∙ (behind bad (leb n (getD turns i 0)) (strays n (drop (suc i) turns))
+    ∙ ap (λ (k : ℕ). (bad || leb n (getD turns i 0)) || strays n (drop k turns)) (sym (add-one i)))
+
+right-false : (b : Bool) → b || false ≡ b
+right-false true = refl
+right-false false = refl
+
+pub stray-end : (n i : ℕ) (turns : List ℕ) (bad : Bool) → length turns ≤ i → bad || strays n (drop i turns) ≡ bad
+unfolding strays
+stray-end n i turns bad h =
+    ap (λ (ts : List ℕ). bad || strays n ts) (drop-of-length-le turns {i = i} h) ∙ right-false bad
+
+-- the number 0 is no refusal's
+
+pub some-number : (f : Refusal) → 1 ≤ numberOf f
+some-number badLength = omega arith
+some-number badMark = omega arith
+some-number badPlan = omega arith
+some-number badBarrier = omega arith
+some-number badWorker = omega arith
+some-number badOp = omega arith
+some-number badOperand = omega arith
+some-number tooManySteps = omega arith
+some-number noSize = omega arith
+some-number skipTooFar = omega arith
+some-number badBuffer = omega arith
+some-number tooManyTurns = omega arith
+some-number badTurn = omega arith
+
+pub none-refused : (v : Verdict) → codeOf v ≡ 0 → v ≡ accepted
+none-refused accepted e = refl
+none-refused (refused f i) e = absurd (omega (arith, e, some-number f))
+
+pub first-refused : (v next : Verdict) → (codeOf v ≡ 0 → ⊥) → codeOf v ≡ codeOf (both v next)
+first-refused accepted next h = absurd (h refl)
+first-refused (refused f i) next h = refl
+
+module _ (file turns : List ℕ) (l : Lengths) where
+  abbrev pub decided : ℕ
+  decided = codeOf (verdictBy (misfitBy l) (ltb turnLimit (length turns)) (check file) (strays (workersOf (planOf file)) turns))
+
+  -- the answer by what the tests gave
+  pub tests : (m t s : Bool) (v : Verdict) → misfitBy l ≡ m → ltb turnLimit (length turns) ≡ t → check file ≡ v → strays (workersOf (planOf file)) turns ≡ s
+      → codeOf (verdictBy m t v s) ≡ decided
+  tests m t s v em et ev es =
+      ap (λ (b : Bool). codeOf (verdictBy m t v b)) (sym es)
+      ∙ (ap (λ (u : Verdict). codeOf (verdictBy m t u (strays (workersOf (planOf file)) turns))) (sym ev)
+      ∙ (ap (λ (b : Bool). codeOf (verdictBy m b (check file) (strays (workersOf (planOf file)) turns))) (sym et)
+      ∙ ap (λ (b : Bool). codeOf (verdictBy b (ltb turnLimit (length turns)) (check file) (strays (workersOf (planOf file)) turns))) (sym em)))
+
+  pub refuses : (a : Admitted) (r : ℕ) → a .code ≡ r → (r ≡ 0 → ⊥) → r ≡ decided → Admits file turns l a
+  refuses a r e h d = record { code = e ∙ d; layout = λ z. absurd (h (sym e ∙ z)) }
+
+-- the file is accepted where the code is 0, and the layout's number of workers is its plan's
+pub good : (file : List ℕ) {r : Checked} {k : ℕ} → CheckedAs file r → k ≡ codeOf (verdictOf (r .verdict)) → k ≡ 0 → check file ≡ accepted
+good file {r} c e z = none-refused (check file) (sym (ap (λ (v : Verdict). codeOf v) (c .verdict)) ∙ (sym e ∙ z))
+
+pub plan-workers : (file : List ℕ) {l : Layout} → LaidOut file l → check file ≡ accepted → l .workers ≡ workersOf (planOf file)
+plan-workers file l ok = l .workers ∙ sym (workers-of (records file) (accepted-file file ok .records))
+
+pub stray-same : (file turns : List ℕ) {r : Checked} → CheckedAs file r → check file ≡ accepted
+    → strays (workersOf (planOf file)) turns ≡ strays (r .layout .workers) turns
+stray-same file turns c ok = ap (λ (n : ℕ). strays n turns) (sym (plan-workers file (c .layout (c .verdict ∙ ok)) ok))

@@ -1,0 +1,76 @@
+-- What the call returns, and demand 3 of what it leaves.
+use Prim.Native.Nat.{ℕ}
+use mathlib.Core.Bool.{Bool, true, false}
+use mathlib.Core.Path.{_≡_, refl, sym, ap, _∙_, subst⁻¹}
+use mathlib.Core.List.{List}
+use native.Mathlib.Omega.{arith}
+use lib.Dec.{ltb}
+use lib.ListN.{length}
+use Rattle.protocol.specs.Format.{planOf}
+use Rattle.protocol.specs.Refusals.{Verdict, accepted, refused, codeOf, check}
+use Rattle.protocol.specs.Turns.{workersOf}
+use Rattle.protocol.specs.Calls.{Buffers, Outcome, buffersOf, misfit, strays, turnLimit, playedFrom, outcomeOf, runVerdict, run}
+use Rattle.protocol.specs.Demands.{Demand3Bytes}
+use Rattle.protocol.proofs.Accepted.{sound-file}
+use Rattle.protocol.proofs.Bytes.{demand3-bytes}
+use Rattle.tampermauve.specs.Run.{verdictBy, Ran}
+use Rattle.tampermauve.proofs.Admitting.{some-number, none-refused}
+
+-- what an answer of 0 says of the tests
+pub record Passed (m : Bool) (v : Verdict) (s : Bool) : Type 0 where
+  pub buffers : m ≡ false
+  pub file : v ≡ accepted
+  pub known : s ≡ false
+
+tests-passed : (m t s : Bool) (v : Verdict) → codeOf (verdictBy m t v s) ≡ 0 → Passed m v s
+tests-passed true t s v e = absurd (omega (arith, e))
+tests-passed false true s v e = absurd (omega (arith, e))
+tests-passed false false true accepted e = absurd (omega (arith, e))
+tests-passed false false false accepted e = record { buffers = refl; file = refl; known = refl }
+tests-passed false false s (refused f i) e = absurd (omega (arith, e, some-number f))
+
+module _ (file turns : List ℕ) (b : Buffers) where
+  abbrev pub decided : ℕ
+  decided = codeOf (verdictBy (misfit b) (ltb turnLimit (length turns)) (check file) (strays (workersOf (planOf file)) turns))
+
+  pub passed : decided ≡ 0 → Passed (misfit b) (check file) (strays (workersOf (planOf file)) turns)
+  passed = tests-passed (misfit b) (ltb turnLimit (length turns)) (strays (workersOf (planOf file)) turns) (check file)
+
+  returned-code : run file turns b .returned ≡ decided
+  unfolding run runVerdict
+  returned-code = go (runVerdict file turns b)
+    where
+      go : (v : Verdict) → outcomeOf v (playedFrom (planOf file) (b .memory) turns) b .returned ≡ codeOf v
+      go accepted = refl
+      go (refused f i) = refl
+
+  -- demand 3 follows from what the call returns and leaves
+  pub ran : (r : ℕ) (after : Buffers) → _≡_ {A = Outcome} (record { returned = r; buffers = after }) (run file turns b) → Ran file turns b r after
+  unfolding runVerdict
+  ran r after same = record { same = same; demand3 = carried }
+    where
+      verdict : r ≡ 0 → runVerdict file turns b ≡ accepted
+      verdict z = none-refused (runVerdict file turns b) (sym returned-code ∙ (sym (ap (λ (o : Outcome). o .returned) same) ∙ z))
+
+      carried : r ≡ 0 → Demand3Bytes (planOf file) (b .memory) turns after
+      carried z =
+          subst⁻¹ (λ (left : Buffers). Demand3Bytes (planOf file) (b .memory) turns left) (ap (λ (o : Outcome). o .buffers) same)
+          (demand3-bytes file turns b (verdict z) (sound-file file (passed (sym returned-code ∙ (sym (ap (λ (o : Outcome). o .returned) same) ∙ z)) .file)))
+
+  pub refusal : (r : ℕ) → r ≡ decided → (r ≡ 0 → ⊥) → _≡_ {A = Outcome} (record { returned = r; buffers = b }) (run file turns b)
+  unfolding run runVerdict
+  refusal r e h = go (runVerdict file turns b) e
+    where
+      go : (v : Verdict) → r ≡ codeOf v → _≡_ {A = Outcome} (record { returned = r; buffers = b }) (outcomeOf v (playedFrom (planOf file) (b .memory) turns) b)
+      go accepted e = absurd (h e)
+      go (refused f i) e = ap (λ (k : ℕ). record { returned = k; buffers = b }) e
+
+  pub acceptance : (after : Buffers) → 0 ≡ decided → after ≡ buffersOf (playedFrom (planOf file) (b .memory) turns)
+      → _≡_ {A = Outcome} (record { returned = 0; buffers = after }) (run file turns b)
+  unfolding run runVerdict
+  acceptance after z e = go (runVerdict file turns b) (none-refused (runVerdict file turns b) (sym z))
+    where
+      go : (v : Verdict) → v ≡ accepted → _≡_ {A = Outcome} (record { returned = 0; buffers = after }) (outcomeOf v (playedFrom (planOf file) (b .memory) turns) b)
+      go v ok =
+          ap (λ (left : Buffers). record { returned = 0; buffers = left }) e
+          ∙ ap (λ (u : Verdict). outcomeOf u (playedFrom (planOf file) (b .memory) turns) b) (sym ok)

@@ -1,0 +1,46 @@
+-- What a run is admitted by, and what the call ensures.
+use Prim.Native.Nat.{ℕ}
+use mathlib.Core.Bool.{Bool, not, _||_}
+use mathlib.Core.Path.{_≡_}
+use mathlib.Core.List.{List}
+use lib.Dec.{ltb, eqb}
+use lib.ListN.{length}
+use Rattle.protocol.specs.Format.{planOf}
+use Rattle.protocol.specs.Refusals.{Verdict, accepted, codeOf, badBuffer, tooManyTurns, badTurn, holds, refuseIf, ruled, check}
+use Rattle.protocol.specs.Turns.{workersOf}
+use Rattle.protocol.specs.Calls.{Buffers, Outcome, both, strays, run, turnLimit, memorySize, logSize, reportSize, workSize}
+use Rattle.protocol.specs.Demands.{Demand3Bytes}
+use Rattle.plan.specs.Checking.{LaidOut}
+use Rattle.tampermauve.specs.declared.admit.Lengths.{Lengths}
+use Rattle.tampermauve.specs.declared.admit.Admitted.{Admitted}
+
+abbrev pub lent : List ℕ → List ℕ → List ℕ → List ℕ → Buffers
+lent memory log report work = record { memory = memory; log = log; report = report; work = work }
+
+abbrev pub lengthsOf : Buffers → Lengths
+lengthsOf b = record { memory = length (b .memory); log = length (b .log); report = length (b .report); work = length (b .work) }
+
+abbrev pub misfitBy : Lengths → Bool
+misfitBy l =
+    not (eqb (l .memory) memorySize)
+    || not (eqb (l .log) logSize)
+    || not (eqb (l .report) reportSize)
+    || not (eqb (l .work) workSize)
+
+-- the verdict on a run, by its four tests
+abbrev pub verdictBy : Bool → Bool → Verdict → Bool → Verdict
+verdictBy buffers many file stray =
+    ruled (refuseIf buffers badBuffer holds) 0
+    (ruled (refuseIf many tooManyTurns holds) 0 (both file (ruled (refuseIf stray badTurn holds) 0 accepted)))
+
+pub record Admits (file turns : List ℕ) (l : Lengths) (a : Admitted) : Type 0 where
+  pub code :
+      a .code
+      ≡ codeOf
+      (verdictBy (misfitBy l) (ltb turnLimit (length turns)) (check file) (strays (workersOf (planOf file)) turns))
+  pub layout : a .code ≡ 0 → LaidOut file (a .layout)
+
+-- what is returned and left is what the definition gives; and demand 3 of the bytes that an accepted run leaves
+pub record Ran (file turns : List ℕ) (before : Buffers) (r : ℕ) (after : Buffers) : Type 0 where
+  pub same : _≡_ {A = Outcome} (record { returned = r; buffers = after }) (run file turns before)
+  pub demand3 : r ≡ 0 → Demand3Bytes (planOf file) (before .memory) turns after

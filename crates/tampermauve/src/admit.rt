@@ -1,0 +1,85 @@
+// Whether a run is admitted.
+use plan::answer::code;
+use plan::check::Layout;
+use plan::check::check;
+ghost use mathlib.Core.Path.{_≡_};
+ghost use Rattle.protocol.specs.Calls as calls;
+ghost use Rattle.tampermauve.specs.Run.{misfitBy, Admits};
+
+// The lengths of the lent buffers.
+pub struct Lengths {
+    pub memory: usize,
+    pub log: usize,
+    pub report: usize,
+    pub work: usize,
+}
+
+// The number for C, and the layout of a file that is admitted.
+pub struct Admitted {
+    pub code: u32,
+    pub layout: Layout,
+}
+
+fn misfit(l: Lengths) -> bool
+    ensures { λ b. ⌜ b ≡ misfitBy l ⌝ }
+{
+    if l.memory != 2048 {
+        return true;
+    }
+    if l.log != 8256 {
+        return true;
+    }
+    if l.report != 16 {
+        return true;
+    }
+    l.work != 32768
+}
+
+// Whether a turn names no worker below n. All are looked at: a loop without an early end is several times as fast.
+fn strays(turns: &[u8], n: u8) -> bool
+    ensures { λ b. ⌜ b ≡ calls.strays n (now (turns .entry)) ⌝ }
+{
+    let mut bad = false;
+    let mut i = 0;
+    while i < turns.len() {
+        bad = bad | (n <= turns[i]);
+        i += 1;
+    }
+    bad
+}
+
+fn refused(code: u32) -> Admitted
+    ensures { λ a. ⌜ a .code ≡ code ⌝ }
+{
+    Admitted {
+        code,
+        layout: Layout {
+            workers: 0,
+            sizes: [0u8; 8],
+            firsts: [0usize; 9],
+        },
+    }
+}
+
+// The tests in the paper's order: 11, 12, the file, 13.
+pub fn admit(file: &[u8], turns: &[u8], lent: Lengths) -> Admitted
+    ensures { λ a. ⌜ Admits (now (file .entry)) (now (turns .entry)) lent a ⌝ }
+{
+    if misfit(lent) {
+        return refused(11);
+    }
+    if 65535 < turns.len() {
+        return refused(12);
+    }
+    let checked = check(file);
+    let verdict = checked.verdict;
+    let number = code(verdict);
+    if number != 0 {
+        return refused(number);
+    }
+    let layout = checked.layout;
+    if strays(turns, layout.workers) {
+        return refused(13);
+    }
+    Admitted { code: 0, layout }
+}
