@@ -1,0 +1,367 @@
+#include "sets.h"
+
+#include <stdio.h>
+#include <stdlib.h>
+#include <string.h>
+
+#include "twin.h"
+
+enum { RECORD = 7, WORKERS = 8, STEPS = 128 };
+
+enum {
+    SET_TO = 16,
+    LOAD,
+    STORE,
+    ADD,
+    SUBTRACT,
+    SKIP_ZERO,
+    SKIP_NONZERO,
+    LOCK = 32,
+    UNLOCK,
+    WAIT,
+    SIGNAL,
+    BROADCAST,
+    BARRIER,
+    EXIT
+};
+
+/* --- Writing plans ------------------------------------------------------ */
+
+static struct set *all;
+static unsigned made;
+static int wanted;
+
+static void *room(size_t len)
+{
+    void *bytes = malloc(len);
+    if (bytes == NULL) {
+        fprintf(stderr, "no memory\n");
+        exit(2);
+    }
+    return bytes;
+}
+
+static void put(struct set_case *c, unsigned worker, unsigned op, unsigned reg,
+                unsigned number)
+{
+    const uint8_t bytes[RECORD] = {0x4D,
+                                   0x50,
+                                   (uint8_t)worker,
+                                   (uint8_t)op,
+                                   (uint8_t)reg,
+                                   (uint8_t)(number & 255),
+                                   (uint8_t)(number >> 8)};
+    memcpy(c->file + c->file_len, bytes, RECORD);
+    c->file_len += RECORD;
+}
+
+/* A new set with one case, its plan record and its barriers, all of a size. */
+static struct set_case *new_case(struct set *s, unsigned workers, unsigned size)
+{
+    struct set_case *c = &s->cases[s->count++];
+    c->file = room(SET_FILE);
+    c->file_len = 0;
+    c->turns = room(SET_TURNS);
+    c->turns_len = 0;
+    put(c, workers, 0, 0, 0);
+    for (unsigned barrier = 0; size != 0 && barrier < 8; barrier++)
+        put(c, 0, 1, barrier, size);
+    return c;
+}
+
+static struct set *new_set(const char *name)
+{
+    struct set *s = &all[made++];
+    s->name = name;
+    s->check_only = 0;
+    s->count = 0;
+    return s;
+}
+
+static struct set_case *set_of_one(const char *name, unsigned workers, unsigned size)
+{
+    return new_case(new_set(name), workers, size);
+}
+
+/* --- Writing turn lists ------------------------------------------------- */
+
+static void turn(struct set_case *c, unsigned worker)
+{
+    c->turns[c->turns_len++] = (uint8_t)worker;
+}
+
+/* The same turn up to a length. */
+static void turns_up_to(struct set_case *c, unsigned worker, size_t len)
+{
+    memset(c->turns + c->turns_len, (int)worker, len - c->turns_len);
+    c->turns_len = len;
+}
+
+static size_t steps_of(const struct set_case *c)
+{
+    size_t steps = 0;
+    for (size_t at = 0; at < c->file_len; at += RECORD)
+        steps += c->file[at + 3] >= SET_TO;
+    return steps;
+}
+
+/* The listing's turns: 2 * (steps + workers) cycles. */
+static void cycles(struct set_case *c)
+{
+    unsigned workers = c->file[2];
+    size_t count = 2 * (steps_of(c) + workers);
+    for (size_t i = 0; i < count; i++)
+        for (unsigned worker = 0; worker < workers; worker++)
+            turn(c, worker);
+}
+
+/* So many turns of the case's list move. */
+static unsigned moves_of(const struct set_case *c)
+{
+    static uint8_t memory[2048], log[8256], report[16], work[32768];
+    memset(memory, 0, sizeof memory);
+    if (twin_run(c->file, c->file_len, c->turns, c->turns_len, memory,
+                 sizeof memory, log, sizeof log, report, sizeof report, work,
+                 sizeof work) != 0) {
+        fprintf(stderr, "a plan of the measurement is refused\n");
+        exit(2);
+    }
+    return report[2] | (unsigned)report[3] << 8;
+}
+
+/* Turns to the end, each of which moves: the next worker that can. */
+static void moving_turns(struct set_case *c)
+{
+    unsigned workers = c->file[2], last = 0, passed = 0;
+    if (wanted != ALL_SETS && wanted != (int)made - 1)
+        return;
+    while (passed < workers) {
+        last = (last + 1) % workers;
+        turn(c, last);
+        if (moves_of(c) == c->turns_len) {
+            passed = 0;
+        } else {
+            c->turns_len -= 1;
+            passed += 1;
+        }
+    }
+}
+
+static uint64_t state = 2026;
+
+static unsigned below(unsigned bound)
+{
+    state = state * 6364136223846793005u + 1442695040888963407u;
+    return (unsigned)(state >> 33) % bound;
+}
+
+static void random_turns(struct set_case *c, size_t len)
+{
+    unsigned workers = c->file[2];
+    for (size_t i = 0; i < len; i++)
+        turn(c, below(workers));
+}
+
+/* --- The sets ----------------------------------------------------------- */
+
+static void passing_sets(void)
+{
+    struct set_case *c = set_of_one("pass at the fence", 2, 0);
+    turns_up_to(c, 1, SET_TURNS);
+    c = set_of_one("pass at the fence, 4096 turns", 2, 0);
+    turns_up_to(c, 1, 4096);
+    c = set_of_one("pass at the fence, longest file", WORKERS, 8);
+    for (unsigned i = 0; i < WORKERS * STEPS; i++)
+        put(c, i / STEPS, SET_TO, 0, i);
+    turns_up_to(c, 7, SET_TURNS);
+    c = set_of_one("pass without the token", 2, 0);
+    turn(c, 0);
+    turns_up_to(c, 1, SET_TURNS);
+    c = set_of_one("pass behind the end", 2, 0);
+    for (unsigned i = 0; i < 8; i++)
+        turn(c, i % 2);
+    turns_up_to(c, 1, SET_TURNS);
+    c = set_of_one("pass, workers in turn", WORKERS, 0);
+    for (unsigned i = 0; i < SET_TURNS; i++)
+        turn(c, i % 7);
+}
+
+static void arithmetic_set(void)
+{
+    struct set_case *c = set_of_one("private arithmetic", WORKERS, 0);
+    for (unsigned i = 0; i < WORKERS * STEPS; i++) {
+        static const uint8_t ops[4] = {SET_TO, ADD, SUBTRACT, ADD};
+        put(c, i / STEPS, ops[i % 4], i / 4 % 4, i % 4 ? i % 3 : i);
+    }
+    moving_turns(c);
+}
+
+static void skip_set(void)
+{
+    struct set_case *c = set_of_one("skips", WORKERS, 0);
+    for (unsigned i = 0; i < WORKERS * STEPS; i++) {
+        unsigned last = i % STEPS == STEPS - 1;
+        put(c, i / STEPS, last ? SET_TO : i % 2 ? SKIP_ZERO : SKIP_NONZERO, 0, 1);
+    }
+    moving_turns(c);
+}
+
+static void page_sets(void)
+{
+    struct set_case *c = set_of_one("load and store, one page", WORKERS, 0);
+    for (unsigned i = 0; i < WORKERS * STEPS; i++)
+        put(c, i / STEPS, i % 2 ? STORE : LOAD, i % 4, i * 2 % 128);
+    moving_turns(c);
+    c = set_of_one("load and store, eight pages", WORKERS, 0);
+    for (unsigned i = 0; i < WORKERS * STEPS; i++)
+        put(c, i / STEPS, i % 2 ? STORE : LOAD, i % 4, i * 34 % 2047);
+    moving_turns(c);
+    c = set_of_one("load and store, page borders", WORKERS, 0);
+    for (unsigned i = 0; i < WORKERS * STEPS; i++)
+        put(c, i / STEPS, i % 2 ? STORE : LOAD, i % 4, 255 + 256 * (i % 7));
+    moving_turns(c);
+}
+
+/* A value, a store of it into each page, and a signal that commits them. */
+static void commit_set(void)
+{
+    struct set_case *c = set_of_one("commits of eight pages", WORKERS, 0);
+    for (unsigned i = 0; i < WORKERS * 120; i++) {
+        unsigned worker = i / 120, part = i % 10;
+        if (part == 0)
+            put(c, worker, SET_TO, 0, i);
+        else if (part == 9)
+            put(c, worker, SIGNAL, 0, worker);
+        else
+            put(c, worker, STORE, 0, (part - 1) * 256 + worker * 8);
+    }
+    moving_turns(c);
+}
+
+static void section_sets(void)
+{
+    struct set_case *c = set_of_one("critical sections", WORKERS, 0);
+    for (unsigned worker = 0; worker < WORKERS; worker++) {
+        for (unsigned i = 0; i < STEPS / 6; i++) {
+            put(c, worker, LOCK, 0, 0);
+            put(c, worker, SET_TO, 1, 1);
+            put(c, worker, LOAD, 0, 0);
+            put(c, worker, ADD, 0, 1);
+            put(c, worker, STORE, 0, 0);
+            put(c, worker, UNLOCK, 0, 0);
+        }
+    }
+    moving_turns(c);
+    c = set_of_one("lock and unlock alone", WORKERS, 0);
+    for (unsigned i = 0; i < WORKERS * STEPS; i++)
+        put(c, i / STEPS, i % 2 ? UNLOCK : LOCK, 0, i % 16);
+    moving_turns(c);
+}
+
+static void meeting_sets(void)
+{
+    struct set_case *c = set_of_one("signals and waits", WORKERS, 0);
+    for (unsigned worker = 0; worker < WORKERS; worker++) {
+        static const uint8_t ops[3] = {LOCK, WAIT, UNLOCK};
+        for (unsigned i = 0; i < 126; i++)
+            put(c, worker, worker < 4 ? ops[i % 3] : i % 2 ? SIGNAL : BROADCAST,
+                0, worker % 4);
+    }
+    moving_turns(c);
+    c = set_of_one("barriers of all workers", WORKERS, 8);
+    for (unsigned i = 0; i < WORKERS * STEPS; i++)
+        put(c, i / STEPS, BARRIER, 0, i % 8);
+    moving_turns(c);
+}
+
+/* Any step; skips stay short and land within the worker's steps. */
+static void random_step(struct set_case *c, unsigned worker, unsigned left)
+{
+    static const uint8_t ops[24] = {SET_TO, SET_TO, LOAD, LOAD, LOAD, STORE,
+                                    STORE, STORE, STORE, ADD, ADD, SUBTRACT,
+                                    SKIP_ZERO, SKIP_NONZERO, LOCK, LOCK, UNLOCK,
+                                    UNLOCK, SIGNAL, SIGNAL, BROADCAST, BARRIER,
+                                    WAIT, SET_TO};
+    unsigned op = ops[below(24)];
+    unsigned reg = op < LOCK ? below(4) : 0;
+    unsigned number = below(8);
+    if (op == LOAD || op == STORE)
+        number = below(4) ? 250 + below(12) : below(2047);
+    else if (op == ADD || op == SUBTRACT)
+        number = below(4);
+    else if (op == SKIP_ZERO || op == SKIP_NONZERO)
+        number = 1 + below(4);
+    if ((op == SKIP_ZERO || op == SKIP_NONZERO) && number > left)
+        op = SET_TO;
+    put(c, worker, op, reg, number);
+}
+
+static void random_set(void)
+{
+    struct set *s = new_set("random plans, random lists");
+    while (s->count < SET_CASES) {
+        unsigned workers = 1 + below(8), steps = 1 + below(40);
+        struct set_case *c = new_case(s, workers, 1 + below(workers));
+        for (unsigned i = 0; i < workers * steps; i++)
+            random_step(c, i / steps, steps - 1 - i % steps);
+        random_turns(c, 2 * workers * (workers * steps + workers));
+    }
+}
+
+/* Eight workers with 128 steps of every kind that does not stop a worker. */
+static void mixed_steps(struct set_case *c)
+{
+    static const uint8_t part[8][3] = {{SET_TO, 1, 1}, {LOCK, 0, 3}, {LOAD, 0, 255},
+                                       {ADD, 0, 1}, {STORE, 0, 255}, {UNLOCK, 0, 3},
+                                       {SIGNAL, 0, 2}, {BARRIER, 0, 4}};
+    for (unsigned i = 0; i < WORKERS * STEPS; i++)
+        put(c, i / STEPS, part[i % 8][0], part[i % 8][1], part[i % 8][2]);
+}
+
+static void long_sets(void)
+{
+    struct set_case *c = set_of_one("longest file, listing cycles", WORKERS, 8);
+    mixed_steps(c);
+    cycles(c);
+    c = set_of_one("longest file, 65535 random turns", WORKERS, 8);
+    mixed_steps(c);
+    random_turns(c, SET_TURNS);
+    c = set_of_one("longest file, no turns", WORKERS, 8);
+    mixed_steps(c);
+    c = set_of_one("small file, no turns", 2, 0);
+    put(c, 0, LOAD, 0, 2);
+    put(c, 1, STORE, 0, 2);
+}
+
+static void check_sets(void)
+{
+    struct set_case *c = set_of_one("check, small file", 2, 0);
+    for (unsigned worker = 0; worker < 2; worker++) {
+        put(c, worker, LOAD, 0, 2);
+        put(c, worker, SKIP_NONZERO, 0, 2);
+        put(c, worker, SET_TO, 1, 1);
+        put(c, worker, STORE, 1, 0);
+    }
+    c = set_of_one("check, longest file", WORKERS, 8);
+    mixed_steps(c);
+    all[made - 1].check_only = 1;
+    all[made - 2].check_only = 1;
+}
+
+unsigned make_sets(struct set *sets, int only)
+{
+    all = sets;
+    made = 0;
+    wanted = only;
+    passing_sets();
+    arithmetic_set();
+    skip_set();
+    page_sets();
+    commit_set();
+    section_sets();
+    meeting_sets();
+    random_set();
+    long_sets();
+    check_sets();
+    return made;
+}

@@ -1,0 +1,639 @@
+/* The plan engine, written by hand.
+ *
+ * Steps are read straight from the file's records. Shared memory is the lent
+ * memory itself, and the lent work buffer holds the workers' page copies with
+ * their twins. For every worker there is a byte that says what a turn of it
+ * may do, so that a turn that passes costs one look. */
+#include "twin.h"
+
+#include <string.h>
+
+enum {
+    RECORD = 7,
+    MOST_FILE = 7231,
+    MOST_TURNS = 65535,
+    MOST_WORKERS = 8,
+    MOST_STEPS = 128,
+    QUEUES = 8,
+    PAGE = 256,
+    PAGES = 8,
+    MEMORY = PAGE * PAGES,
+    LOG = 8256,
+    LOG_RECORD = 8,
+    REPORT = 16,
+    WORK = 32768
+};
+
+enum {
+    OP_PLAN = 0,
+    OP_SIZE = 1,
+    OP_SET = 16,
+    OP_LOAD,
+    OP_STORE,
+    OP_ADD,
+    OP_SUBTRACT,
+    OP_SKIP_ZERO,
+    OP_SKIP_NONZERO,
+    OP_LOCK = 32,
+    OP_UNLOCK,
+    OP_WAIT,
+    OP_SIGNAL,
+    OP_BROADCAST,
+    OP_BARRIER,
+    OP_EXIT,
+    OPS
+};
+
+/* Offsets in a record. */
+enum { AT_WORKER = 2, AT_OP, AT_REGISTER, AT_NUMBER };
+
+/* What a turn of a worker may do. */
+enum { PASS = 0, TO_FENCE = 1, HOLDS_TOKEN = 2 };
+
+/* Fates, as the report has them. */
+enum { GOING = 0, EXITED, FAILED, ON_CONDITION, AT_BARRIER, NO_WORKER = 255 };
+
+enum { NOBODY = 255, FAILURE = 254 };
+
+/* --- The file ---------------------------------------------------------- */
+
+/* Limits of the operands of one op; an op without a row is unknown. */
+struct limits {
+    uint8_t known;
+    uint8_t register_most;
+    uint16_t number_least;
+    uint16_t number_most;
+};
+
+static const struct limits LIMITS[OPS] = {
+    [OP_SET] = {1, 3, 0, 65535},
+    [OP_LOAD] = {1, 3, 0, 2046},
+    [OP_STORE] = {1, 3, 0, 2046},
+    [OP_ADD] = {1, 3, 0, 3},
+    [OP_SUBTRACT] = {1, 3, 0, 3},
+    [OP_SKIP_ZERO] = {1, 3, 1, 127},
+    [OP_SKIP_NONZERO] = {1, 3, 1, 127},
+    [OP_LOCK] = {1, 0, 0, 15},
+    [OP_UNLOCK] = {1, 0, 0, 15},
+    [OP_WAIT] = {1, 0, 0, 7},
+    [OP_SIGNAL] = {1, 0, 0, 7},
+    [OP_BROADCAST] = {1, 0, 0, 7},
+    [OP_BARRIER] = {1, 0, 0, 7},
+    [OP_EXIT] = {1, 0, 0, 0},
+};
+
+/* Where the parts of a plan lie in its file. */
+struct plan {
+    unsigned workers;
+    unsigned last;                    /* worker of the last step read */
+    unsigned last_barrier;            /* one above the last barrier read */
+    unsigned reach;                   /* furthest landing of its skips */
+    int too_far;                      /* some skip lands too far */
+    unsigned first[MOST_WORKERS + 1]; /* index of each worker's first step */
+    uint8_t size[QUEUES];             /* 0: a barrier without a size */
+};
+
+static unsigned number_of(const uint8_t *record)
+{
+    return record[AT_NUMBER] | (unsigned)record[AT_NUMBER + 1] << 8;
+}
+
+static int is_skip(unsigned op)
+{
+    return op == OP_SKIP_ZERO || op == OP_SKIP_NONZERO;
+}
+
+static unsigned read_plan(struct plan *p, const uint8_t *record)
+{
+    unsigned workers = record[AT_WORKER];
+    if (record[AT_OP] != OP_PLAN || workers < 1 || workers > MOST_WORKERS ||
+        record[AT_REGISTER] != 0 || number_of(record) != 0)
+        return 3;
+    p->workers = workers;
+    p->first[0] = 1;
+    return 0;
+}
+
+/* first[0] lies right behind the last barrier record, so a barrier record at
+ * another index comes after a step. */
+static unsigned read_size(struct plan *p, const uint8_t *record, unsigned index)
+{
+    unsigned barrier = record[AT_REGISTER], size = number_of(record);
+    if (index != p->first[0] || record[AT_WORKER] != 0 || barrier >= QUEUES ||
+        barrier < p->last_barrier || size < 1 || size > 8)
+        return 4;
+    p->size[barrier] = (uint8_t)size;
+    p->last_barrier = barrier + 1;
+    p->first[0] = index + 1;
+    return 0;
+}
+
+/* Ends the steps of all workers up to this one, at a record index. */
+static void go_on_to(struct plan *p, unsigned worker, unsigned index)
+{
+    while (p->last < worker) {
+        if (p->reach > index)
+            p->too_far = 1;
+        p->reach = 0;
+        p->last += 1;
+        p->first[p->last] = index;
+    }
+}
+
+static unsigned read_step(struct plan *p, const uint8_t *record, unsigned index)
+{
+    unsigned op = record[AT_OP], worker = record[AT_WORKER];
+    unsigned number = number_of(record);
+    if (op >= OPS || !LIMITS[op].known)
+        return 6;
+    if (worker >= p->workers || worker < p->last)
+        return 5;
+    go_on_to(p, worker, index);
+    if (index - p->first[worker] >= MOST_STEPS)
+        return 8;
+    if (record[AT_REGISTER] > LIMITS[op].register_most ||
+        number < LIMITS[op].number_least || number > LIMITS[op].number_most)
+        return 7;
+    if (op == OP_BARRIER && p->size[number] == 0)
+        return 9;
+    if (is_skip(op) && index + 1 + number > p->reach)
+        p->reach = index + 1 + number;
+    return 0;
+}
+
+static unsigned read_record(struct plan *p, const uint8_t *record, unsigned index)
+{
+    if (record[0] != 0x4D || record[1] != 0x50)
+        return 2;
+    if (index == 0)
+        return read_plan(p, record);
+    if (record[AT_OP] == OP_PLAN)
+        return 3;
+    if (record[AT_OP] == OP_SIZE)
+        return read_size(p, record, index);
+    return read_step(p, record, index);
+}
+
+/* The first skip that lands too far. */
+static uint32_t far_skip(const struct plan *p, const uint8_t *file)
+{
+    for (unsigned worker = 0; worker < p->workers; worker++) {
+        unsigned behind = p->first[worker + 1];
+        for (unsigned index = p->first[worker]; index < behind; index++) {
+            const uint8_t *record = file + index * RECORD;
+            if (is_skip(record[AT_OP]) && index + 1 + number_of(record) > behind)
+                return 10 + 256 * index;
+        }
+    }
+    return 0;
+}
+
+static uint32_t read_file(struct plan *p, const uint8_t *file, size_t file_len)
+{
+    memset(p, 0, sizeof *p);
+    if (file_len == 0 || file_len > MOST_FILE || file_len % RECORD != 0)
+        return 1;
+    unsigned records = (unsigned)file_len / RECORD;
+    for (unsigned index = 0; index < records; index++) {
+        unsigned refusal = read_record(p, file + index * RECORD, index);
+        if (refusal != 0)
+            return refusal + 256 * index;
+    }
+    go_on_to(p, p->workers, records);
+    return p->too_far ? far_skip(p, file) : 0;
+}
+
+uint32_t twin_check(const uint8_t *file, size_t file_len)
+{
+    struct plan plan;
+    return read_file(&plan, file, file_len);
+}
+
+/* --- Queues of workers -------------------------------------------------- */
+
+/* Up to eight workers, a byte each, the first one in the lowest byte. */
+struct queue {
+    uint64_t bytes;
+    unsigned len;
+};
+
+static void push(struct queue *q, unsigned worker)
+{
+    q->bytes |= (uint64_t)worker << 8 * q->len;
+    q->len += 1;
+}
+
+static unsigned first_of(const struct queue *q)
+{
+    return (unsigned)(q->bytes & 255);
+}
+
+static unsigned pop(struct queue *q)
+{
+    unsigned worker = first_of(q);
+    q->bytes >>= 8;
+    q->len -= 1;
+    return worker;
+}
+
+static void put_behind_first(struct queue *q, unsigned worker)
+{
+    q->bytes = q->bytes >> 8 << 16 | (uint64_t)worker << 8 | first_of(q);
+    q->len += 1;
+}
+
+/* --- The engine --------------------------------------------------------- */
+
+struct worker {
+    const uint8_t *step;    /* record of the step at hand */
+    const uint8_t *behind;  /* behind the last step */
+    uint8_t *copies;        /* for each page its working copy and its twin */
+    uint16_t registers[4];
+    uint8_t copied;         /* bit p: page p is copied */
+    uint8_t count;
+    uint8_t fate;
+    uint8_t name;
+};
+
+struct engine {
+    uint8_t may[MOST_WORKERS];
+    struct worker workers[MOST_WORKERS];
+    uint8_t *memory;
+    uint8_t *log;
+    unsigned log_fill;
+    unsigned moves;
+    unsigned rounds;
+    unsigned running;       /* workers in the list that have not arrived */
+    struct queue list, next;
+    struct queue conditions[QUEUES], barriers[QUEUES];
+    const struct plan *plan;
+};
+
+static uint8_t *copy_of(const struct worker *w, unsigned page)
+{
+    return w->copies + page * 2 * PAGE;
+}
+
+static const uint8_t *page_seen(const struct engine *e, const struct worker *w,
+                                unsigned page)
+{
+    return w->copied >> page & 1 ? copy_of(w, page) : e->memory + page * PAGE;
+}
+
+static uint8_t *page_to_write(const struct engine *e, struct worker *w,
+                              unsigned page)
+{
+    uint8_t *copy = copy_of(w, page);
+    if (!(w->copied >> page & 1)) {
+        memcpy(copy, e->memory + page * PAGE, PAGE);
+        memcpy(copy + PAGE, e->memory + page * PAGE, PAGE);
+        w->copied |= (uint8_t)(1u << page);
+    }
+    return copy;
+}
+
+static uint16_t load(const struct engine *e, const struct worker *w, unsigned at)
+{
+    unsigned above = at + 1;
+    unsigned low = page_seen(e, w, at / PAGE)[at % PAGE];
+    unsigned high = page_seen(e, w, above / PAGE)[above % PAGE];
+    return (uint16_t)(low | high << 8);
+}
+
+static void store(const struct engine *e, struct worker *w, unsigned at,
+                  uint16_t value)
+{
+    unsigned above = at + 1;
+    page_to_write(e, w, at / PAGE)[at % PAGE] = (uint8_t)(value & 255);
+    page_to_write(e, w, above / PAGE)[above % PAGE] = (uint8_t)(value >> 8);
+}
+
+/* Writes the bytes of a page that differ from its twin, and no other. */
+static void commit_page(uint8_t *restrict shared, const uint8_t *restrict copy)
+{
+    const uint8_t *restrict twin = copy + PAGE;
+    for (unsigned i = 0; i < PAGE; i++)
+        shared[i] = copy[i] != twin[i] ? copy[i] : shared[i];
+}
+
+static void commit(struct engine *e, struct worker *w)
+{
+    unsigned left = w->copied;
+    for (unsigned page = 0; left != 0; page++, left >>= 1)
+        if (left & 1)
+            commit_page(e->memory + page * PAGE, copy_of(w, page));
+    w->copied = 0;
+}
+
+/* A step on registers or memory. */
+static void plain_step(const struct engine *e, struct worker *w)
+{
+    const uint8_t *record = w->step;
+    unsigned number = number_of(record);
+    uint16_t *own = &w->registers[record[AT_REGISTER]];
+    w->step += RECORD;
+    switch (record[AT_OP]) {
+    case OP_SET:
+        *own = (uint16_t)number;
+        break;
+    case OP_LOAD:
+        *own = load(e, w, number);
+        break;
+    case OP_STORE:
+        store(e, w, number, *own);
+        break;
+    case OP_ADD:
+        *own = (uint16_t)(*own + w->registers[number]);
+        break;
+    case OP_SUBTRACT:
+        *own = (uint16_t)(*own - w->registers[number]);
+        break;
+    case OP_SKIP_ZERO:
+        w->step += *own == 0 ? number * RECORD : 0;
+        break;
+    case OP_SKIP_NONZERO:
+        w->step += *own != 0 ? number * RECORD : 0;
+        break;
+    }
+}
+
+/* Lets all workers of the list run to the fence. */
+static void begin_round(struct engine *e)
+{
+    uint64_t bytes = e->list.bytes;
+    e->running = e->list.len;
+    for (unsigned i = 0; i < e->list.len; i++, bytes >>= 8)
+        e->may[bytes & 255] = TO_FENCE;
+}
+
+static void arrive(struct engine *e, struct worker *w)
+{
+    e->may[w->name] = PASS;
+    e->running -= 1;
+    if (e->running == 0)
+        e->may[first_of(&e->list)] = HOLDS_TOKEN;
+}
+
+/* The holder is out of the list: the next one gets the token, or the next
+ * round begins, if anybody is left for it. */
+static void pass_token(struct engine *e, struct worker *w)
+{
+    e->may[w->name] = PASS;
+    pop(&e->list);
+    if (e->list.len != 0) {
+        e->may[first_of(&e->list)] = HOLDS_TOKEN;
+        return;
+    }
+    e->rounds += 1;
+    e->list = e->next;
+    e->next = (struct queue){0, 0};
+    begin_round(e);
+}
+
+static void give_up_token(struct engine *e, struct worker *w)
+{
+    push(&e->next, w->name);
+    pass_token(e, w);
+}
+
+static void leave(struct engine *e, struct worker *w, uint8_t fate)
+{
+    w->fate = fate;
+    pass_token(e, w);
+}
+
+static void write_log(struct engine *e, const struct worker *w, unsigned op,
+                      unsigned number, unsigned outcome)
+{
+    unsigned round = e->rounds + 1;
+    uint8_t *to = e->log + e->log_fill;
+    to[0] = 0x4D;
+    to[1] = 0x4C;
+    to[2] = (uint8_t)(round & 255);
+    to[3] = (uint8_t)(round >> 8);
+    to[4] = w->name;
+    to[5] = (uint8_t)op;
+    to[6] = (uint8_t)number;
+    to[7] = (uint8_t)outcome;
+    e->log_fill += LOG_RECORD;
+}
+
+static void fail(struct engine *e, struct worker *w, unsigned op, unsigned number)
+{
+    write_log(e, w, op, number, FAILURE);
+    w->copied = 0;
+    leave(e, w, FAILED);
+}
+
+static void lock(struct engine *e, struct worker *w, unsigned number)
+{
+    if (w->count == 0)
+        commit(e, w);
+    w->count += 1;
+    write_log(e, w, OP_LOCK, number, w->count);
+}
+
+static void unlock(struct engine *e, struct worker *w, unsigned number)
+{
+    w->count -= 1;
+    write_log(e, w, OP_UNLOCK, number, w->count);
+    if (w->count == 0) {
+        commit(e, w);
+        give_up_token(e, w);
+    }
+}
+
+static void wait_on(struct engine *e, struct worker *w, unsigned condition)
+{
+    commit(e, w);
+    push(&e->conditions[condition], w->name);
+    write_log(e, w, OP_WAIT, condition, NOBODY);
+    leave(e, w, ON_CONDITION);
+}
+
+/* A broadcast wakes one waiter, as a signal does. */
+static void wake_one(struct engine *e, struct worker *w, unsigned op,
+                     unsigned condition)
+{
+    struct queue *waiting = &e->conditions[condition];
+    unsigned woken = NOBODY;
+    commit(e, w);
+    if (waiting->len != 0) {
+        woken = pop(waiting);
+        e->workers[woken].fate = GOING;
+        put_behind_first(&e->list, woken);
+    }
+    write_log(e, w, op, condition, woken);
+    if (w->count == 0)
+        give_up_token(e, w);
+}
+
+static void meet(struct engine *e, struct worker *w, unsigned barrier)
+{
+    struct queue *met = &e->barriers[barrier];
+    unsigned size = e->plan->size[barrier];
+    commit(e, w);
+    if (met->len + 1 < size) {
+        push(met, w->name);
+        write_log(e, w, OP_BARRIER, barrier, 0);
+        leave(e, w, AT_BARRIER);
+        return;
+    }
+    while (met->len != 0) {
+        unsigned freed = pop(met);
+        e->workers[freed].fate = GOING;
+        push(&e->next, freed);
+    }
+    write_log(e, w, OP_BARRIER, barrier, size);
+    give_up_token(e, w);
+}
+
+static void exit_plan(struct engine *e, struct worker *w)
+{
+    commit(e, w);
+    write_log(e, w, OP_EXIT, 0, NOBODY);
+    leave(e, w, EXITED);
+}
+
+/* Unlock and wait need a count, barrier and exit need none. */
+static int fails(const struct worker *w, unsigned op)
+{
+    if (w->count == 0)
+        return op == OP_UNLOCK || op == OP_WAIT;
+    return op == OP_BARRIER || op == OP_EXIT;
+}
+
+static void token_step(struct engine *e, struct worker *w, unsigned op)
+{
+    unsigned number = w->step == w->behind ? 0 : number_of(w->step);
+    if (fails(w, op)) {
+        fail(e, w, op, number);
+        return;
+    }
+    w->step += op == OP_EXIT ? 0 : RECORD;
+    switch (op) {
+    case OP_LOCK:
+        lock(e, w, number);
+        break;
+    case OP_UNLOCK:
+        unlock(e, w, number);
+        break;
+    case OP_WAIT:
+        wait_on(e, w, number);
+        break;
+    case OP_SIGNAL:
+    case OP_BROADCAST:
+        wake_one(e, w, op, number);
+        break;
+    case OP_BARRIER:
+        meet(e, w, number);
+        break;
+    default:
+        exit_plan(e, w);
+        break;
+    }
+}
+
+static void move(struct engine *e, struct worker *w)
+{
+    unsigned op = w->step == w->behind ? OP_EXIT : w->step[AT_OP];
+    e->moves += 1;
+    if (op < OP_LOCK)
+        plain_step(e, w);
+    else if (e->may[w->name] == HOLDS_TOKEN)
+        token_step(e, w, op);
+    else
+        arrive(e, w);
+}
+
+static void play(struct engine *e, const uint8_t *turns, size_t turns_len)
+{
+    for (size_t i = 0; i < turns_len; i++)
+        if (e->may[turns[i]] != PASS)
+            move(e, &e->workers[turns[i]]);
+}
+
+/* --- The run ------------------------------------------------------------ */
+
+static void start(struct engine *e, const struct plan *plan, const uint8_t *file,
+                  uint8_t *memory, uint8_t *log, uint8_t *work)
+{
+    memset(e, 0, sizeof *e);
+    e->plan = plan;
+    e->memory = memory;
+    e->log = log;
+    for (unsigned i = 0; i < plan->workers; i++) {
+        struct worker *w = &e->workers[i];
+        w->name = (uint8_t)i;
+        w->step = file + plan->first[i] * RECORD;
+        w->behind = file + plan->first[i + 1] * RECORD;
+        w->copies = work + i * PAGES * 2 * PAGE;
+        push(&e->list, i);
+    }
+    begin_round(e);
+}
+
+/* 0 going, 1 finished, 2 stuck. */
+static uint8_t end_of(const struct engine *e)
+{
+    if (e->list.len != 0)
+        return 0;
+    for (unsigned i = 0; i < e->plan->workers; i++)
+        if (e->workers[i].fate != EXITED && e->workers[i].fate != FAILED)
+            return 2;
+    return 1;
+}
+
+static void put_two(uint8_t *to, unsigned number)
+{
+    to[0] = (uint8_t)(number & 255);
+    to[1] = (uint8_t)(number >> 8);
+}
+
+static void fill_report(const struct engine *e, uint8_t *report)
+{
+    report[0] = end_of(e);
+    report[1] = (uint8_t)e->plan->workers;
+    put_two(report + 2, e->moves);
+    put_two(report + 4, e->rounds);
+    put_two(report + 6, e->log_fill / LOG_RECORD);
+    memset(report + 8, NO_WORKER, MOST_WORKERS);
+    for (unsigned i = 0; i < e->plan->workers; i++)
+        report[8 + i] = e->workers[i].fate;
+}
+
+static int names_nobody(const uint8_t *turns, size_t turns_len, unsigned workers)
+{
+    uint8_t most = 0;
+    for (size_t i = 0; i < turns_len; i++)
+        most = turns[i] > most ? turns[i] : most;
+    return turns_len != 0 && most >= workers;
+}
+
+uint32_t twin_run(const uint8_t *file, size_t file_len,
+                  const uint8_t *turns, size_t turns_len,
+                  uint8_t *memory, size_t memory_len,
+                  uint8_t *log, size_t log_len,
+                  uint8_t *report, size_t report_len,
+                  uint8_t *work, size_t work_len)
+{
+    struct plan plan;
+    struct engine engine;
+    uint32_t refusal;
+    if (memory_len != MEMORY || log_len != LOG || report_len != REPORT ||
+        work_len != WORK)
+        return 11;
+    if (turns_len > MOST_TURNS)
+        return 12;
+    refusal = read_file(&plan, file, file_len);
+    if (refusal != 0)
+        return refusal;
+    if (names_nobody(turns, turns_len, plan.workers))
+        return 13;
+    start(&engine, &plan, file, memory, log, work);
+    play(&engine, turns, turns_len);
+    fill_report(&engine, report);
+    memset(log + engine.log_fill, 0, LOG - engine.log_fill);
+    memset(work, 0, WORK);
+    return 0;
+}

@@ -1,0 +1,50 @@
+/* Runs a plan in whole cycles to its end, shows the report in words and keeps
+ * what a later run is to be held against.
+ *
+ * approve PLAN PREFIX [MEMORY]
+ *
+ * MEMORY is a file of 2,048 bytes, the starting memory; without it that is
+ * zero. Kept are PREFIX.start (the starting memory), PREFIX.memory,
+ * PREFIX.log and PREFIX.report. Ends with 0; 1 if the plan is refused, and
+ * then nothing is kept; 2 if a file is in trouble. */
+#include <stdio.h>
+#include <string.h>
+
+#include "host.h"
+#include "tampermauve.h"
+
+static struct host host;
+static uint8_t starting[HOST_MEMORY];
+
+static int keep(const char *prefix)
+{
+    return host_write_part(prefix, "start", starting, sizeof starting) ||
+           host_write_part(prefix, "memory", host.memory, sizeof host.memory) ||
+           host_write_part(prefix, "log", host.log, sizeof host.log) ||
+           host_write_part(prefix, "report", host.report, sizeof host.report);
+}
+
+int main(int argc, char **argv)
+{
+    uint32_t answer;
+    if (argc != 3 && argc != 4) {
+        fprintf(stderr, "approve PLAN PREFIX [MEMORY]\n");
+        return 2;
+    }
+    if (host_read_plan(&host, argv[1]))
+        return 2;
+    if (argc == 4 && host_read(argv[3], host.memory, sizeof host.memory))
+        return 2;
+    memcpy(starting, host.memory, sizeof starting);
+    answer = tampermauve_check(host.file, host.file_len);
+    if (answer == 0) {
+        host_cycles(&host, 0);
+        answer = host_run(&host);
+    }
+    if (answer != 0) {
+        host_say_refusal(answer);
+        return 1;
+    }
+    host_say_report(&host);
+    return keep(argv[2]) ? 2 : 0;
+}

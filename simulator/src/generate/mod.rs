@@ -1,0 +1,20 @@
+//! Seeded random plans, turn lists, buffers and damaged files.
+//!
+//! Everything here is settled by the seed alone, so a test that finds a
+//! difference can name the seed and find it again.
+
+pub mod buffers;
+pub mod damage;
+pub mod draft;
+pub mod plans;
+pub mod rng;
+pub mod scenario;
+pub mod script;
+pub mod turns;
+
+pub use damage::{damaged_files, showcase, Damaged};
+pub use draft::Draft;
+pub use plans::{plan, PlanKind};
+pub use rng::Rng;
+pub use scenario::{ListKind, Scenario, Scenarios};
+pub use turns::{turns, TurnKind};

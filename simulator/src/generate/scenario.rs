@@ -1,0 +1,136 @@
+//! Whole calls for a comparison of two engines.
+
+use crate::generate::buffers::{memory, noise, wrong_lengths, LENGTHS};
+use crate::generate::damage::{
+    damaged_files, double_fault, fuzzed, showcase, single_fault, Damaged,
+};
+use crate::generate::draft::Draft;
+use crate::generate::plans::{plan, PlanKind};
+use crate::generate::rng::Rng;
+use crate::generate::turns::{misnamed, too_long, turns, TurnKind};
+
+/// How the turn list of a scenario is made.
+#[derive(Clone, Copy, Debug, PartialEq, Eq)]
+pub enum ListKind {
+    Made(TurnKind),
+    /// Above 65,535 turns.
+    TooLong,
+    /// With a turn that names no worker.
+    Misnamed,
+}
+
+/// All that is lent to one run, with old contents in every buffer.
+#[derive(Clone, Debug, PartialEq, Eq)]
+pub struct Scenario {
+    pub label: String,
+    pub plan: PlanKind,
+    pub list: ListKind,
+    pub file: Vec<u8>,
+    pub turns: Vec<u8>,
+    pub memory: Vec<u8>,
+    pub log: Vec<u8>,
+    pub report: Vec<u8>,
+    pub work: Vec<u8>,
+}
+
+impl Scenario {
+    /// Runs the scenario on its own buffers and gives the call's answer.
+    pub fn run(&mut self) -> u32 {
+        crate::calls::run(
+            &self.file,
+            &self.turns,
+            &mut self.memory,
+            &mut self.log,
+            &mut self.report,
+            &mut self.work,
+        )
+    }
+}
+
+/// A source of scenarios; each is settled by its seed alone.
+pub struct Scenarios {
+    base: Draft,
+    damaged: Vec<Damaged>,
+}
+
+impl Default for Scenarios {
+    fn default() -> Self {
+        Self::new()
+    }
+}
+
+impl Scenarios {
+    /// The source, with its damaged files made once.
+    pub fn new() -> Self {
+        Scenarios {
+            base: showcase(),
+            damaged: damaged_files(&mut Rng::new(0), 0),
+        }
+    }
+
+    /// The scenario of a seed. Most are accepted; the others have a damaged
+    /// file, wrong turns or wrong lengths, at times several of these at once.
+    pub fn of(&self, seed: u64) -> Scenario {
+        let mut rng = Rng::new(seed);
+        // Long plans are costly, so they come less often.
+        let kind = if rng.chance(1, 16) {
+            rng.pick(&PlanKind::LONG)
+        } else {
+            rng.pick(&PlanKind::SMALL)
+        };
+        let draft = plan(&mut rng, kind);
+        let (list, turns) = turn_list(&mut rng, &draft);
+        let (file_label, file) = self.plan_file(&mut rng, &draft);
+        let mut scenario = Scenario {
+            label: format!("seed {seed}, {kind:?}, {list:?}, {file_label}"),
+            plan: kind,
+            list,
+            file,
+            turns,
+            memory: memory(&mut rng),
+            log: Vec::new(),
+            report: Vec::new(),
+            work: Vec::new(),
+        };
+        lend(&mut rng, &mut scenario);
+        scenario
+    }
+
+    fn plan_file(&self, rng: &mut Rng, draft: &Draft) -> (String, Vec<u8>) {
+        let damaged = match rng.below(20) {
+            0 => double_fault(rng, &self.base),
+            1 => fuzzed(rng, draft),
+            2 => single_fault(rng, draft),
+            3 => self.damaged[rng.below(self.damaged.len())].clone(),
+            _ => return ("whole".to_string(), draft.file()),
+        };
+        (damaged.label, damaged.file)
+    }
+}
+
+fn turn_list(rng: &mut Rng, draft: &Draft) -> (ListKind, Vec<u8>) {
+    let (workers, steps) = (draft.workers(), draft.step_count());
+    match rng.below(64) {
+        0 => (ListKind::TooLong, too_long(rng, workers)),
+        1 | 2 => (ListKind::Misnamed, misnamed(rng, workers, steps)),
+        // The longest lists are costly, so they come less often.
+        3 => (
+            ListKind::Made(TurnKind::Longest),
+            turns(rng, TurnKind::Longest, workers, steps),
+        ),
+        _ => {
+            let kind = rng.pick(&TurnKind::CHEAP);
+            (ListKind::Made(kind), turns(rng, kind, workers, steps))
+        }
+    }
+}
+
+/// Gives the buffers their lengths and old contents.
+fn lend(rng: &mut Rng, scenario: &mut Scenario) {
+    let wrong = rng.chance(1, 24);
+    let lengths = if wrong { wrong_lengths(rng) } else { LENGTHS };
+    scenario.memory.resize(lengths[0], 0);
+    scenario.log = noise(rng, lengths[1]);
+    scenario.report = noise(rng, lengths[2]);
+    scenario.work = noise(rng, lengths[3]);
+}

@@ -1,0 +1,25 @@
+//! A simulator of the plan engine, written from its paper alone.
+//!
+//! Two runs live here side by side and share only the checked plan and the
+//! shape of their answer: [`turn_machine`] plays a list of turns, one turn at
+//! a time, and [`round_run`] plays whole rounds without turns. They keep
+//! their state in different structures on purpose, so that a slip in one of
+//! them shows as a difference between the two.
+
+pub mod calls;
+pub mod check;
+pub mod counts;
+pub mod format;
+pub mod generate;
+pub mod listing;
+pub mod outcome;
+pub mod round_run;
+pub mod turn_machine;
+
+pub use calls::{check_code, run, run_counted};
+pub use check::{check, Plan, Refusal, Step};
+pub use counts::Counts;
+pub use listing::listing;
+pub use outcome::Outcome;
+pub use round_run::play_rounds;
+pub use turn_machine::{play_turns, Machine};

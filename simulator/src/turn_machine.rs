@@ -1,0 +1,465 @@
+//! The turn machine: one turn names a worker and makes at most one move.
+//!
+//! Points the paper leaves open or says only by implication, as decided here:
+//!
+//! * The list passes to the next round within the move that empties it; no
+//!   turn is spent on it.
+//! * A woken worker counts as arrived in the round whose list it is put in:
+//!   it comes behind a full fence and needs no arrival of its own.
+//! * The tests for failure come before the commit of the step, so a failing
+//!   step writes nothing to shared memory.
+//! * A failure logs the op and the number as met; the end of the steps is met
+//!   as op 38 with number 0.
+//! * A holder with a count above 0 that wakes two workers one after the other
+//!   puts the second directly behind itself, so in front of the first.
+//! * The caller that fills a barrier gives up the token.
+//! * A load of two bytes looks for a copy for each of them, since they can
+//!   lie in different pages.
+
+use crate::check::{Plan, Step};
+use crate::counts::Counts;
+use crate::format::{LOG_MARK, LOG_RECORD_LENGTH, MOST_WORKERS, OP_EXIT, REPORT_LENGTH};
+use crate::outcome::Outcome;
+
+const PAGE_SIZE: usize = 256;
+const PAGES: usize = 8;
+
+const NOBODY: u8 = 255;
+const FAILURE: u8 = 254;
+
+/// A page as a worker has copied it: what it works on, and the twin.
+#[derive(Clone)]
+struct PageCopy {
+    working: [u8; PAGE_SIZE],
+    twin: [u8; PAGE_SIZE],
+}
+
+/// What has become of a worker.
+#[derive(Clone, Copy, PartialEq, Eq)]
+enum Fate {
+    Going,
+    Exited,
+    Failed,
+    OnCondition,
+    AtBarrier,
+}
+
+/// A worker's private record.
+#[derive(Clone)]
+struct Worker {
+    place: usize,
+    registers: [u16; 4],
+    count: u8,
+    copies: [Option<Box<PageCopy>>; PAGES],
+    arrived: bool,
+    fate: Fate,
+}
+
+impl Worker {
+    fn new() -> Self {
+        Worker {
+            place: 0,
+            registers: [0; 4],
+            count: 0,
+            copies: Default::default(),
+            arrived: false,
+            fate: Fate::Going,
+        }
+    }
+
+    fn read(&self, shared: &[u8], address: usize) -> u8 {
+        match &self.copies[address / PAGE_SIZE] {
+            Some(copy) => copy.working[address % PAGE_SIZE],
+            None => shared[address],
+        }
+    }
+
+    fn write(&mut self, shared: &[u8], address: usize, byte: u8) {
+        let page = address / PAGE_SIZE;
+        let copy = self.copies[page].get_or_insert_with(|| {
+            let mut bytes = [0; PAGE_SIZE];
+            bytes.copy_from_slice(&shared[page * PAGE_SIZE..][..PAGE_SIZE]);
+            Box::new(PageCopy {
+                working: bytes,
+                twin: bytes,
+            })
+        });
+        copy.working[address % PAGE_SIZE] = byte;
+    }
+
+    fn load(&self, shared: &[u8], address: usize) -> u16 {
+        let low = self.read(shared, address);
+        let high = self.read(shared, address + 1);
+        u16::from_le_bytes([low, high])
+    }
+
+    fn store(&mut self, shared: &[u8], address: usize, word: u16) {
+        let [low, high] = word.to_le_bytes();
+        self.write(shared, address, low);
+        self.write(shared, address + 1, high);
+    }
+
+    /// Writes every byte that differs from its twin and drops the copies.
+    fn commit(&mut self, shared: &mut [u8]) {
+        for (page, slot) in self.copies.iter_mut().enumerate() {
+            let Some(copy) = slot.take() else { continue };
+            let target = &mut shared[page * PAGE_SIZE..][..PAGE_SIZE];
+            for (offset, byte) in target.iter_mut().enumerate() {
+                if copy.working[offset] != copy.twin[offset] {
+                    *byte = copy.working[offset];
+                }
+            }
+        }
+    }
+
+    fn drop_copies(&mut self) {
+        self.copies = Default::default();
+    }
+
+    /// Carries out a step that does not synchronise.
+    fn plain(&mut self, shared: &[u8], step: Step) {
+        let own = usize::from(step.register);
+        let number = usize::from(step.number);
+        self.place += 1;
+        match step.op {
+            16 => self.registers[own] = step.number,
+            17 => self.registers[own] = self.load(shared, number),
+            18 => self.store(shared, number, self.registers[own]),
+            19 => self.registers[own] = self.registers[own].wrapping_add(self.registers[number]),
+            20 => self.registers[own] = self.registers[own].wrapping_sub(self.registers[number]),
+            21 if self.registers[own] == 0 => self.place += number,
+            22 if self.registers[own] != 0 => self.place += number,
+            _ => {}
+        }
+    }
+}
+
+/// Where a queued worker is queued.
+#[derive(Clone, Copy, PartialEq, Eq)]
+enum Spot {
+    Condition(u16),
+    Barrier(u16),
+}
+
+/// What the holder does with the token after a step.
+#[derive(Clone, Copy, PartialEq, Eq)]
+enum Token {
+    Keep,
+    GiveUp,
+    Leave,
+}
+
+/// How a plan stands.
+#[derive(Clone, Copy, PartialEq, Eq, Debug)]
+pub enum End {
+    Going,
+    Finished,
+    Stuck,
+}
+
+/// The whole state between two turns.
+#[derive(Clone)]
+pub struct Machine<'a> {
+    plan: &'a Plan,
+    shared: Vec<u8>,
+    workers: Vec<Worker>,
+    list: Vec<usize>,
+    next: Vec<usize>,
+    /// All queued workers in the order in which they queued.
+    parked: Vec<(Spot, usize)>,
+    rounds: u16,
+    moves: u16,
+    log: Vec<u8>,
+    end: End,
+    counts: Counts,
+}
+
+impl<'a> Machine<'a> {
+    /// The start of round 1.
+    pub fn new(plan: &'a Plan, memory: &[u8]) -> Self {
+        Machine {
+            plan,
+            shared: memory.to_vec(),
+            workers: vec![Worker::new(); plan.workers()],
+            list: (0..plan.workers()).collect(),
+            next: Vec::new(),
+            parked: Vec::new(),
+            rounds: 0,
+            moves: 0,
+            log: Vec::new(),
+            end: End::Going,
+            counts: Counts::default(),
+        }
+    }
+
+    /// What has been tried so far.
+    pub fn counts(&self) -> &Counts {
+        &self.counts
+    }
+
+    /// How the plan stands.
+    pub fn end(&self) -> End {
+        self.end
+    }
+
+    /// Plays one turn and says whether it moved.
+    pub fn turn(&mut self, worker: usize) -> bool {
+        let moved = self.try_move(worker);
+        if moved {
+            self.moves += 1;
+        }
+        moved
+    }
+
+    /// Memory, log and report as they stand.
+    pub fn outcome(&self) -> Outcome {
+        Outcome {
+            memory: self.shared.clone(),
+            log: self.log.clone(),
+            report: self.report(),
+        }
+    }
+
+    /// The step at which a worker stands; its end is an exit.
+    fn at_hand(&self, worker: usize) -> Step {
+        let end = Step {
+            op: OP_EXIT,
+            register: 0,
+            number: 0,
+        };
+        let place = self.workers[worker].place;
+        self.plan.steps[worker].get(place).copied().unwrap_or(end)
+    }
+
+    fn try_move(&mut self, worker: usize) -> bool {
+        if self.end != End::Going {
+            self.counts.passes_behind_end += 1;
+            return false;
+        }
+        if !self.list.contains(&worker) {
+            self.counts.passes_out_of_list += 1;
+            return false;
+        }
+        let fence_full = self.list.iter().all(|&each| self.workers[each].arrived);
+        if fence_full && self.list[0] != worker {
+            self.counts.passes_without_token += 1;
+            return false;
+        }
+        if !fence_full && self.workers[worker].arrived {
+            self.counts.passes_at_fence += 1;
+            return false;
+        }
+        let step = self.at_hand(worker);
+        match (step.op >= 32, fence_full) {
+            (false, _) => self.plain_step(worker, step),
+            (true, false) => {
+                self.workers[worker].arrived = true;
+                self.counts.arrivals += 1;
+            }
+            (true, true) => self.token_step(worker, step),
+        }
+        true
+    }
+
+    /// A step on registers or memory, by a runner or by the holder.
+    fn plain_step(&mut self, worker: usize, step: Step) {
+        let own = &mut self.workers[worker];
+        self.counts.plain(step, own.registers);
+        own.plain(&self.shared, step);
+    }
+
+    /// The holder carries out a synchronising step.
+    fn token_step(&mut self, worker: usize, step: Step) {
+        let behind_last = self.workers[worker].place == self.plan.steps[worker].len();
+        self.counts.synchronising(step.op, behind_last);
+        let (outcome, token) = if self.fails(worker, step.op) {
+            self.fail(worker)
+        } else {
+            self.workers[worker].place += 1;
+            self.synchronise(worker, step)
+        };
+        self.write_log(worker, step, outcome);
+        self.settle(worker, token);
+    }
+
+    fn fails(&self, worker: usize, op: u8) -> bool {
+        let free = self.workers[worker].count == 0;
+        match op {
+            33 | 34 => free,
+            37 | 38 => !free,
+            _ => false,
+        }
+    }
+
+    fn fail(&mut self, worker: usize) -> (u8, Token) {
+        self.workers[worker].drop_copies();
+        self.workers[worker].fate = Fate::Failed;
+        (FAILURE, Token::Leave)
+    }
+
+    fn synchronise(&mut self, worker: usize, step: Step) -> (u8, Token) {
+        match step.op {
+            32 => self.lock(worker),
+            33 => self.unlock(worker),
+            34 => self.wait(worker, step.number),
+            // A broadcast is as a signal: it wakes the first waiter alone.
+            35 | 36 => self.signal(worker, step.number),
+            37 => self.barrier(worker, step.number),
+            _ => self.exit(worker),
+        }
+    }
+
+    fn commit(&mut self, worker: usize) {
+        self.workers[worker].commit(&mut self.shared);
+    }
+
+    fn lock(&mut self, worker: usize) -> (u8, Token) {
+        if self.workers[worker].count == 0 {
+            self.commit(worker);
+        }
+        self.workers[worker].count += 1;
+        (self.workers[worker].count, Token::Keep)
+    }
+
+    fn unlock(&mut self, worker: usize) -> (u8, Token) {
+        self.workers[worker].count -= 1;
+        let count = self.workers[worker].count;
+        if count > 0 {
+            return (count, Token::Keep);
+        }
+        self.commit(worker);
+        (0, Token::GiveUp)
+    }
+
+    fn wait(&mut self, worker: usize, condition: u16) -> (u8, Token) {
+        self.commit(worker);
+        self.workers[worker].fate = Fate::OnCondition;
+        self.parked.push((Spot::Condition(condition), worker));
+        (NOBODY, Token::Leave)
+    }
+
+    fn signal(&mut self, worker: usize, condition: u16) -> (u8, Token) {
+        self.commit(worker);
+        let spot = Spot::Condition(condition);
+        let first = self.parked.iter().position(|&(at, _)| at == spot);
+        let woken = first.map(|position| self.parked.remove(position).1);
+        if let Some(waiter) = woken {
+            self.workers[waiter].fate = Fate::Going;
+            self.list.insert(1, waiter);
+        }
+        let token = if self.workers[worker].count == 0 {
+            Token::GiveUp
+        } else {
+            Token::Keep
+        };
+        (woken.map_or(NOBODY, |waiter| waiter as u8), token)
+    }
+
+    fn barrier(&mut self, worker: usize, barrier: u16) -> (u8, Token) {
+        self.commit(worker);
+        let size = self.plan.barrier_sizes[usize::from(barrier)].unwrap_or(1);
+        let spot = Spot::Barrier(barrier);
+        let queued = self.parked.iter().filter(|(at, _)| *at == spot).count();
+        if queued + 1 < usize::from(size) {
+            self.workers[worker].fate = Fate::AtBarrier;
+            self.parked.push((spot, worker));
+            return (0, Token::Leave);
+        }
+        let (freed, kept): (Vec<_>, Vec<_>) = self.parked.iter().partition(|(at, _)| *at == spot);
+        self.parked = kept;
+        for (_, each) in freed {
+            self.workers[each].fate = Fate::Going;
+            self.next.push(each);
+        }
+        (size, Token::GiveUp)
+    }
+
+    fn exit(&mut self, worker: usize) -> (u8, Token) {
+        self.commit(worker);
+        self.workers[worker].fate = Fate::Exited;
+        (NOBODY, Token::Leave)
+    }
+
+    fn write_log(&mut self, worker: usize, step: Step, outcome: u8) {
+        let [low, high] = (self.rounds + 1).to_le_bytes();
+        let number = step.number as u8;
+        self.log.extend_from_slice(&LOG_MARK);
+        self.log
+            .extend_from_slice(&[low, high, worker as u8, step.op, number, outcome]);
+    }
+
+    /// Passes the token on and goes over to the next round where due.
+    fn settle(&mut self, worker: usize, token: Token) {
+        if token == Token::Keep {
+            return;
+        }
+        self.list.remove(0);
+        if token == Token::GiveUp {
+            self.next.push(worker);
+        }
+        if self.list.is_empty() {
+            self.complete_round();
+        }
+    }
+
+    fn complete_round(&mut self) {
+        self.rounds += 1;
+        self.list = std::mem::take(&mut self.next);
+        for &each in &self.list {
+            self.workers[each].arrived = false;
+        }
+        if self.list.is_empty() {
+            let over = |worker: &Worker| matches!(worker.fate, Fate::Exited | Fate::Failed);
+            self.end = if self.workers.iter().all(over) {
+                End::Finished
+            } else {
+                End::Stuck
+            };
+        }
+    }
+
+    fn report(&self) -> [u8; REPORT_LENGTH] {
+        let mut report = [NOBODY; REPORT_LENGTH];
+        report[0] = match self.end {
+            End::Going => 0,
+            End::Finished => 1,
+            End::Stuck => 2,
+        };
+        report[1] = self.workers.len() as u8;
+        let records = (self.log.len() / LOG_RECORD_LENGTH) as u16;
+        report[2..4].copy_from_slice(&self.moves.to_le_bytes());
+        report[4..6].copy_from_slice(&self.rounds.to_le_bytes());
+        report[6..8].copy_from_slice(&records.to_le_bytes());
+        for (slot, worker) in report[REPORT_LENGTH - MOST_WORKERS..]
+            .iter_mut()
+            .zip(&self.workers)
+        {
+            *slot = fate_byte(worker.fate);
+        }
+        report
+    }
+}
+
+fn fate_byte(fate: Fate) -> u8 {
+    match fate {
+        Fate::Going => 0,
+        Fate::Exited => 1,
+        Fate::Failed => 2,
+        Fate::OnCondition => 3,
+        Fate::AtBarrier => 4,
+    }
+}
+
+/// Plays a whole list of turns. Each turn names a worker below n.
+pub fn play_turns(plan: &Plan, memory: &[u8], turns: &[u8]) -> Outcome {
+    play_counted(plan, memory, turns).0
+}
+
+/// As `play_turns`, and says what was tried on the way.
+pub fn play_counted(plan: &Plan, memory: &[u8], turns: &[u8]) -> (Outcome, Counts) {
+    let mut machine = Machine::new(plan, memory);
+    for &turn in turns {
+        machine.turn(usize::from(turn));
+    }
+    (machine.outcome(), machine.counts)
+}

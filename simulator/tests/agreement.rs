@@ -1,0 +1,143 @@
+//! Whatever turn list reaches the end, memory, log and report are those of
+//! the round-by-round run; an unfinished run's log begins the full log.
+
+use simulator::format::{LOG_LENGTH, RECORD_LENGTH};
+use simulator::generate::buffers::memory;
+use simulator::generate::{plan, turns, Draft, PlanKind, Rng, Scenarios, TurnKind};
+use simulator::{check, play_rounds, play_turns, Outcome, Plan};
+
+/// Plays one list and compares it with the full run; says whether it ended.
+fn agrees(plan: &Plan, start: &[u8], list: &[u8], full: &Outcome) -> bool {
+    let outcome = play_turns(plan, start, list);
+    if outcome.end() != 0 {
+        assert_eq!(&outcome, full);
+        return true;
+    }
+    assert!(full.log.starts_with(&outcome.log));
+    assert!(outcome.moving_turns() < full.moving_turns());
+    assert!(outcome.rounds() <= full.rounds());
+    false
+}
+
+/// One plan under a list of every kind; counts ended and unfinished ones.
+fn compare(rng: &mut Rng, draft: &Draft, kinds: &[TurnKind]) -> (usize, usize) {
+    let plan = check(&draft.file()).expect("an accepted plan");
+    assert_eq!(plan.steps, draft.steps);
+    let start = memory(rng);
+    let full = play_rounds(&plan, &start);
+    let (workers, steps) = (plan.workers(), plan.step_count());
+    assert!(usize::from(full.moving_turns()) <= 2 * (steps + workers));
+    let mut counts = (0, 0);
+    for &kind in kinds {
+        let list = turns(rng, kind, workers, steps);
+        let ended = agrees(&plan, &start, &list, &full);
+        assert!(ended || !kind.reaches_end());
+        match ended {
+            true => counts.0 += 1,
+            false => counts.1 += 1,
+        }
+    }
+    counts
+}
+
+#[test]
+fn small_plans() {
+    let mut rng = Rng::new(20);
+    let mut ends = [0; 3];
+    let mut counts = (0, 0);
+    for round in 0..900 {
+        let kind = PlanKind::SMALL[round % PlanKind::SMALL.len()];
+        let draft = plan(&mut rng, kind);
+        let (ended, going) = compare(&mut rng, &draft, &TurnKind::CHEAP);
+        counts = (counts.0 + ended, counts.1 + going);
+        let read = check(&draft.file()).expect("an accepted plan");
+        let full = play_rounds(&read, &[0; 2_048]);
+        ends[usize::from(full.end())] += 1;
+    }
+    // The plans are worth running: both ends and both kinds of runs are met.
+    assert!(ends[1] > 200 && ends[2] > 100, "{ends:?}");
+    assert!(counts.0 > 3_000 && counts.1 > 1_000, "{counts:?}");
+}
+
+#[test]
+fn long_plans() {
+    let mut rng = Rng::new(21);
+    for round in 0..6 {
+        let longest = plan(&mut rng, PlanKind::Longest);
+        assert_eq!(longest.file().len(), 1_033 * RECORD_LENGTH);
+        compare(&mut rng, &longest, &TurnKind::ALL);
+        let full = plan(&mut rng, PlanKind::FullLog);
+        compare(&mut rng, &full, &[TurnKind::Shuffled, TurnKind::Bursts]);
+        let read = check(&full.file()).expect("an accepted plan");
+        let outcome = play_rounds(&read, &[0; 2_048]);
+        assert_eq!(outcome.log.len(), LOG_LENGTH, "plan {round}");
+        assert_eq!(outcome.end(), 1);
+    }
+}
+
+#[test]
+fn rounds_above_255() {
+    let mut rng = Rng::new(23);
+    for _ in 0..6 {
+        let draft = plan(&mut rng, PlanKind::Relay);
+        compare(&mut rng, &draft, &[TurnKind::Shuffled, TurnKind::Cycles]);
+        let read = check(&draft.file()).expect("an accepted plan");
+        let outcome = play_rounds(&read, &[0; 2_048]);
+        assert_eq!(outcome.end(), 1);
+        assert!(outcome.rounds() > 240, "{}", outcome.rounds());
+    }
+}
+
+#[test]
+fn every_outcome_is_met() {
+    let mut rng = Rng::new(22);
+    let mut met = std::collections::BTreeSet::new();
+    for round in 0..600 {
+        let draft = plan(&mut rng, PlanKind::SMALL[round % PlanKind::SMALL.len()]);
+        let read = check(&draft.file()).expect("an accepted plan");
+        for record in play_rounds(&read, &[0; 2_048]).log.chunks_exact(8) {
+            met.insert((record[5], record[7]));
+        }
+    }
+    let wanted = [
+        (32, 1),
+        (32, 3),
+        (33, 0),
+        (33, 1),
+        (33, 254),
+        (34, 254),
+        (34, 255),
+        (35, 0),
+        (35, 255),
+        (36, 1),
+        (36, 255),
+        (37, 0),
+        (37, 1),
+        (37, 2),
+        (37, 254),
+        (38, 254),
+        (38, 255),
+    ];
+    for pair in wanted {
+        assert!(met.contains(&pair), "{pair:?} is not among {met:?}");
+    }
+}
+
+#[test]
+fn scenarios_are_settled_by_their_seed() {
+    let mut answers = std::collections::BTreeSet::new();
+    let (source, other) = (Scenarios::new(), Scenarios::new());
+    for seed in 0..800 {
+        let mut first = source.of(seed);
+        let second = other.of(seed);
+        assert_eq!(first, second);
+        let answer = first.run();
+        answers.insert(answer % 256);
+        if answer != 0 {
+            assert_eq!(first, second);
+        }
+    }
+    for answer in [0, 2, 7, 11, 12, 13] {
+        assert!(answers.contains(&answer), "{answers:?}");
+    }
+}

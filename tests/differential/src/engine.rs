@@ -1,0 +1,174 @@
+//! The engine under test, behind its two C calls.
+
+use std::ffi::{c_char, c_int, c_void, CString};
+
+type CheckCall = unsafe extern "C" fn(*const u8, usize) -> u32;
+type RunCall = unsafe extern "C" fn(
+    *const u8,
+    usize,
+    *const u8,
+    usize,
+    *mut u8,
+    usize,
+    *mut u8,
+    usize,
+    *mut u8,
+    usize,
+    *mut u8,
+    usize,
+) -> u32;
+
+extern "C" {
+    fn twin_check(file: *const u8, file_len: usize) -> u32;
+    fn twin_run(
+        file: *const u8,
+        file_len: usize,
+        turns: *const u8,
+        turns_len: usize,
+        memory: *mut u8,
+        memory_len: usize,
+        log: *mut u8,
+        log_len: usize,
+        report: *mut u8,
+        report_len: usize,
+        work: *mut u8,
+        work_len: usize,
+    ) -> u32;
+}
+
+#[cfg(feature = "check")]
+extern "C" {
+    fn tampermauve_check(file: *const u8, file_len: usize) -> u32;
+}
+
+#[cfg(feature = "library")]
+extern "C" {
+    fn tampermauve_run(
+        file: *const u8,
+        file_len: usize,
+        turns: *const u8,
+        turns_len: usize,
+        memory: *mut u8,
+        memory_len: usize,
+        log: *mut u8,
+        log_len: usize,
+        report: *mut u8,
+        report_len: usize,
+        work: *mut u8,
+        work_len: usize,
+    ) -> u32;
+}
+
+extern "C" {
+    fn dlopen(name: *const c_char, flags: c_int) -> *mut c_void;
+    fn dlsym(handle: *mut c_void, name: *const c_char) -> *mut c_void;
+}
+
+const RTLD_NOW: c_int = 2;
+
+/// A pointer and the length that is told for it.
+#[derive(Clone, Copy)]
+pub struct Told {
+    pub start: *mut u8,
+    pub length: usize,
+}
+
+/// An engine's two calls. An engine without a run is tested by its check.
+#[derive(Clone, Copy)]
+pub struct Engine {
+    check: CheckCall,
+    run: Option<RunCall>,
+}
+
+impl Engine {
+    /// `library`, `twin`, or the path of a shared object with the twin's calls.
+    pub fn named(name: &str) -> Result<Engine, String> {
+        match name {
+            "twin" => Ok(Engine {
+                check: twin_check,
+                run: Some(twin_run),
+            }),
+            "library" => library(),
+            path => from_object(path),
+        }
+    }
+
+    pub fn can_run(&self) -> bool {
+        self.run.is_some()
+    }
+
+    /// Checks a file.
+    pub fn check(&self, file: Told) -> u32 {
+        // An engine may read no more than the told bytes, and only those
+        // that a refusal has not spared it.
+        unsafe { (self.check)(file.start, file.length) }
+    }
+
+    /// Runs a file over turns, on memory, log, report and work.
+    pub fn run(&self, file: Told, turns: Told, lent: [Told; 4]) -> u32 {
+        let run = self.run.expect("an engine with a run");
+        let [memory, log, report, work] = lent;
+        unsafe {
+            run(
+                file.start,
+                file.length,
+                turns.start,
+                turns.length,
+                memory.start,
+                memory.length,
+                log.start,
+                log.length,
+                report.start,
+                report.length,
+                work.start,
+                work.length,
+            )
+        }
+    }
+}
+
+#[cfg(feature = "library")]
+fn library() -> Result<Engine, String> {
+    Ok(Engine {
+        check: tampermauve_check,
+        run: Some(tampermauve_run),
+    })
+}
+
+#[cfg(all(feature = "check", not(feature = "library")))]
+fn library() -> Result<Engine, String> {
+    Ok(Engine {
+        check: tampermauve_check,
+        run: None,
+    })
+}
+
+#[cfg(not(feature = "check"))]
+fn library() -> Result<Engine, String> {
+    Err("built without the library; see the features of Cargo.toml".to_string())
+}
+
+fn from_object(path: &str) -> Result<Engine, String> {
+    let name = CString::new(path).map_err(|_| "a zero byte in a path".to_string())?;
+    let handle = unsafe { dlopen(name.as_ptr(), RTLD_NOW) };
+    if handle.is_null() {
+        return Err(format!("{path} is no engine and cannot be loaded"));
+    }
+    let check = symbol(handle, c"twin_check")?;
+    let run = symbol(handle, c"twin_run")?;
+    // The object is compiled from bench/twin.h, which gives both types.
+    unsafe {
+        Ok(Engine {
+            check: std::mem::transmute::<*mut c_void, CheckCall>(check),
+            run: Some(std::mem::transmute::<*mut c_void, RunCall>(run)),
+        })
+    }
+}
+
+fn symbol(handle: *mut c_void, name: &std::ffi::CStr) -> Result<*mut c_void, String> {
+    let found = unsafe { dlsym(handle, name.as_ptr()) };
+    if found.is_null() {
+        return Err(format!("{name:?} is missing"));
+    }
+    Ok(found)
+}

@@ -1,0 +1,120 @@
+//! Cutting a failing call down to a small one that still fails.
+
+use crate::call::Call;
+
+/// Tries at most, so that shrinking ends soon.
+const MOST_TRIES: usize = 30_000;
+
+/// Bytes of a record of the plan file.
+const RECORD: usize = 7;
+
+/// A smaller call for which `fails` still holds.
+pub fn shrink(call: &Call, fails: &dyn Fn(&Call) -> bool) -> Call {
+    let mut shrinker = Shrinker {
+        best: call.clone(),
+        fails,
+        tries: 0,
+    };
+    loop {
+        let before = shrinker.best.clone();
+        shrinker.still_buffers();
+        shrinker.cut_turns();
+        shrinker.cut_records();
+        shrinker.fewer_workers();
+        if shrinker.best == before || shrinker.tries >= MOST_TRIES {
+            return shrinker.best;
+        }
+    }
+}
+
+struct Shrinker<'a> {
+    best: Call,
+    fails: &'a dyn Fn(&Call) -> bool,
+    tries: usize,
+}
+
+impl Shrinker<'_> {
+    /// Keeps the candidate if it still fails.
+    fn try_one(&mut self, candidate: Call) -> bool {
+        if self.tries >= MOST_TRIES || candidate == self.best {
+            return false;
+        }
+        self.tries += 1;
+        let kept = (self.fails)(&candidate);
+        if kept {
+            self.best = candidate;
+        }
+        kept
+    }
+
+    /// Zeros in place of old contents.
+    fn still_buffers(&mut self) {
+        for which in 0..4 {
+            let mut candidate = self.best.clone();
+            candidate.lent[which].fill(0);
+            self.try_one(candidate);
+        }
+    }
+
+    /// Takes out stretches of turns, long ones first.
+    fn cut_turns(&mut self) {
+        let mut length = self.best.turns.len();
+        while length > 0 {
+            let mut at = 0;
+            while at + length <= self.best.turns.len() {
+                let mut candidate = self.best.clone();
+                candidate.turns.drain(at..at + length);
+                if !self.try_one(candidate) {
+                    at += length;
+                }
+            }
+            length /= 2;
+        }
+    }
+
+    /// Takes out records behind the first one.
+    fn cut_records(&mut self) {
+        let mut at = RECORD;
+        while at + RECORD <= self.best.file.len() {
+            let mut candidate = self.best.clone();
+            candidate.file.drain(at..at + RECORD);
+            if !self.try_one(candidate) {
+                at += RECORD;
+            }
+        }
+    }
+
+    /// Takes out one worker with its steps and turns, the last one first.
+    fn fewer_workers(&mut self) {
+        if self.best.file.len() < RECORD {
+            return;
+        }
+        for worker in (0..self.best.file[2]).rev() {
+            if self.best.file[2] > 1 {
+                let candidate = without_worker(&self.best, worker);
+                self.try_one(candidate);
+            }
+        }
+    }
+}
+
+/// The call without a worker; those above it are named one lower.
+fn without_worker(call: &Call, worker: u8) -> Call {
+    let mut candidate = call.clone();
+    candidate.file = call.file[..RECORD].to_vec();
+    candidate.file[2] -= 1;
+    for record in call.file[RECORD..].chunks(RECORD) {
+        let is_step = record.len() == RECORD && record[3] > 1;
+        if is_step && record[2] == worker {
+            continue;
+        }
+        let start = candidate.file.len();
+        candidate.file.extend_from_slice(record);
+        if is_step && record[2] > worker {
+            candidate.file[start + 2] -= 1;
+        }
+    }
+    let others = call.turns.iter().filter(|turn| **turn != worker);
+    candidate.turns = others.map(|turn| turn - u8::from(*turn > worker)).collect();
+    candidate
+}

@@ -1,0 +1,184 @@
+//! How often each rule came up. A rule that never did was not tested.
+
+use simulator::format::LOG_RECORD_LENGTH;
+use simulator::generate::{ListKind, PlanKind, TurnKind};
+use simulator::Counts;
+
+use crate::call::Verdict;
+
+const OUTCOMES: [&str; 17] = [
+    "lock, count 1",
+    "lock, count above 1",
+    "unlock, count 0",
+    "unlock, count above 0",
+    "wait",
+    "signal, one woken",
+    "signal, nobody",
+    "broadcast, one woken",
+    "broadcast, nobody",
+    "barrier, queued",
+    "barrier, full at size 1",
+    "barrier, full above size 1",
+    "exit",
+    "unlock failed",
+    "wait failed",
+    "barrier failed",
+    "exit failed",
+];
+
+const ENDS: [&str; 3] = ["going", "finished", "stuck"];
+const FATES: [&str; 5] = [
+    "going",
+    "exited",
+    "failed",
+    "on a condition",
+    "at a barrier",
+];
+
+/// Counts over all calls.
+#[derive(Default)]
+pub struct Tally {
+    pub runs: u64,
+    pub checks: u64,
+    tried: Counts,
+    outcomes: [u64; OUTCOMES.len()],
+    ends: [u64; ENDS.len()],
+    fates: [u64; FATES.len()],
+    run_answers: [u64; 14],
+    check_answers: [u64; 11],
+    lists: [u64; TurnKind::ALL.len() + 2],
+    plans: [u64; PlanKind::ALL.len()],
+    late_rounds: u64,
+    rounds: u64,
+    vast: u64,
+    tiny: u64,
+}
+
+impl Tally {
+    /// An answer of a check.
+    pub fn check(&mut self, answer: u32) {
+        self.checks += 1;
+        self.check_answers[(answer % 256) as usize] += 1;
+    }
+
+    /// What a run did.
+    pub fn run(&mut self, verdict: &Verdict) {
+        self.runs += 1;
+        self.run_answers[(verdict.answer % 256) as usize] += 1;
+        if verdict.answer != 0 {
+            return;
+        }
+        self.tried.add(&verdict.counts);
+        let records = usize::from(u16::from_le_bytes([verdict.report[6], verdict.report[7]]));
+        let log = verdict.log.chunks_exact(LOG_RECORD_LENGTH);
+        for record in log.take(records) {
+            self.outcomes[outcome_kind(record[5], record[7])] += 1;
+            self.late_rounds += u64::from(record[3] != 0);
+        }
+        self.ends[usize::from(verdict.report[0])] += 1;
+        for &fate in verdict.report[8..].iter().filter(|&&fate| fate != 255) {
+            self.fates[usize::from(fate)] += 1;
+        }
+    }
+
+    /// The kinds of an accepted or refused random call.
+    pub fn kinds(&mut self, plan: PlanKind, list: ListKind) {
+        let all = TurnKind::ALL;
+        let place = match list {
+            ListKind::Made(kind) => all.iter().position(|&each| each == kind),
+            ListKind::TooLong => Some(all.len()),
+            ListKind::Misnamed => Some(all.len() + 1),
+        };
+        self.lists[place.expect("a kind of list")] += 1;
+        let place = PlanKind::ALL.iter().position(|&each| each == plan);
+        self.plans[place.expect("a kind of plan")] += 1;
+    }
+
+    /// An ended run held against the round-by-round run as well.
+    pub fn rounds(&mut self) {
+        self.rounds += 1;
+    }
+
+    /// A call with a length told wrong by 4 GiB.
+    pub fn vast(&mut self) {
+        self.vast += 1;
+    }
+
+    /// A list of a tiny plan.
+    pub fn tiny(&mut self) {
+        self.tiny += 1;
+    }
+
+    /// All rows; those of runs only if runs are tested.
+    pub fn rows(&self, with_runs: bool) -> Vec<(String, u64)> {
+        let mut rows = numbered("check: ", &self.check_answers);
+        if !with_runs {
+            return rows;
+        }
+        rows.extend(numbered("run: ", &self.run_answers));
+        rows.extend(self.tried.rows());
+        rows.extend(named("outcome: ", &OUTCOMES, &self.outcomes));
+        rows.extend(named("end: ", &ENDS, &self.ends));
+        rows.extend(named("fate: ", &FATES, &self.fates));
+        let mut lists: Vec<String> = TurnKind::ALL.map(|kind| format!("{kind:?}")).to_vec();
+        lists.extend(["TooLong".to_string(), "Misnamed".to_string()]);
+        rows.extend(named("turn list: ", &lists, &self.lists));
+        let plans = PlanKind::ALL.map(|kind| format!("{kind:?}"));
+        rows.extend(named("plan: ", &plans, &self.plans));
+        rows.push((
+            "log record of a round above 255".to_string(),
+            self.late_rounds,
+        ));
+        rows.push((
+            "held against the round-by-round run".to_string(),
+            self.rounds,
+        ));
+        rows.push(("length told 4 GiB too long".to_string(), self.vast));
+        rows.push(("turn list of a tiny plan".to_string(), self.tiny));
+        rows
+    }
+}
+
+/// Prints the rows and gives those that are zero.
+pub fn print(rows: &[(String, u64)]) -> Vec<&str> {
+    for (name, count) in rows {
+        println!("{count:>12}  {name}");
+    }
+    let zero = rows.iter().filter(|(_, count)| *count == 0);
+    zero.map(|(name, _)| name.as_str()).collect()
+}
+
+fn named(prefix: &str, names: &[impl AsRef<str>], counts: &[u64]) -> Vec<(String, u64)> {
+    let row = |(name, count): (&_, &u64)| (prefix.to_string() + AsRef::as_ref(name), *count);
+    names.iter().zip(counts).map(row).collect()
+}
+
+fn numbered(prefix: &str, counts: &[u64]) -> Vec<(String, u64)> {
+    let row = |(number, count): (usize, &u64)| match number {
+        0 => (format!("{prefix}accepted"), *count),
+        _ => (format!("{prefix}refusal {number}"), *count),
+    };
+    counts.iter().enumerate().map(row).collect()
+}
+
+fn outcome_kind(op: u8, outcome: u8) -> usize {
+    match (op, outcome) {
+        (33, 254) => 13,
+        (34, 254) => 14,
+        (37, 254) => 15,
+        (38, 254) => 16,
+        (32, 1) => 0,
+        (32, _) => 1,
+        (33, 0) => 2,
+        (33, _) => 3,
+        (34, _) => 4,
+        (35, 255) => 6,
+        (35, _) => 5,
+        (36, 255) => 8,
+        (36, _) => 7,
+        (37, 0) => 9,
+        (37, 1) => 10,
+        (37, _) => 11,
+        _ => 12,
+    }
+}

@@ -1,0 +1,83 @@
+//! Tiny plans, each to be played under every turn list up to a length.
+
+use simulator::generate::Draft;
+
+type Row = &'static [(u8, u8, u16)];
+/// Barriers with their sizes, and the steps of so many workers.
+type Sketch<const WORKERS: usize> = (&'static [(u8, u16)], [Row; WORKERS]);
+
+/// A tiny plan and the length up to which all its turn lists are played.
+pub struct Tiny {
+    pub file: Vec<u8>,
+    pub workers: usize,
+    pub length: usize,
+}
+
+const STORE: Row = &[(16, 0, 258), (18, 0, 255)];
+const SECTION: Row = &[(32, 0, 0), (33, 0, 0)];
+const WAITER: Row = &[(32, 0, 3), (34, 0, 2), (33, 0, 3)];
+const WAKER: Row = &[(35, 0, 2)];
+const LOCKED_WAKER: Row = &[(32, 0, 0), (36, 0, 2), (33, 0, 0)];
+const BROADCASTER: Row = &[(36, 0, 2)];
+const MEETING: Row = &[(37, 0, 1)];
+const FAILING: Row = &[(18, 0, 0), (33, 0, 0)];
+const SKIPPING: Row = &[(21, 0, 1), (38, 0, 0)];
+const ADDING: Row = &[(17, 0, 0), (16, 1, 1), (19, 0, 1), (18, 0, 0)];
+
+/// The plans.
+pub fn plans() -> Vec<Tiny> {
+    let pairs: [Sketch<2>; 12] = [
+        (&[], [&[], &[]]),
+        (&[], [STORE, STORE]),
+        (&[], [ADDING, &[]]),
+        (&[], [SECTION, SECTION]),
+        (&[], [WAITER, WAKER]),
+        (&[], [WAKER, WAITER]),
+        (&[], [LOCKED_WAKER, WAITER]),
+        (&[(1, 2)], [MEETING, MEETING]),
+        (&[(1, 1)], [MEETING, SECTION]),
+        (&[(1, 3)], [MEETING, STORE]),
+        (&[], [FAILING, STORE]),
+        (&[], [SKIPPING, WAKER]),
+    ];
+    let triples: [Sketch<3>; 4] = [
+        (&[], [&[], &[], &[]]),
+        (&[(1, 2)], [MEETING, &[], MEETING]),
+        (&[], [WAKER, SECTION, &[]]),
+        (&[], [FAILING, WAKER, &[]]),
+    ];
+    let mut all = vec![tiny(&[], &[ADDING], 12)];
+    all.extend(pairs.map(|(sizes, rows)| tiny(sizes, &rows, 12)));
+    all.extend(triples.map(|(sizes, rows)| tiny(sizes, &rows, 8)));
+    // Two are waiting at a broadcast after eight moves.
+    all.push(tiny(&[], &[WAITER, WAITER, BROADCASTER], 9));
+    all
+}
+
+fn tiny(sizes: &[(u8, u16)], rows: &[Row], length: usize) -> Tiny {
+    Tiny {
+        file: Draft::from_rows(sizes, rows).file(),
+        workers: rows.len(),
+        length,
+    }
+}
+
+impl Tiny {
+    /// Every turn list up to the length, the empty one first.
+    pub fn lists(&self) -> impl Iterator<Item = Vec<u8>> + '_ {
+        (0..=self.length).flat_map(move |length| {
+            let lists = self.workers.pow(length as u32);
+            (0..lists).map(move |number| self.list(number, length))
+        })
+    }
+
+    /// The digits of a number, in the base of the count of workers.
+    fn list(&self, mut number: usize, length: usize) -> Vec<u8> {
+        let mut list = vec![0; length];
+        for turn in &mut list {
+            *turn = (number % self.workers) as u8;
+            number /= self.workers;
+        }
+        list
+    }
+}

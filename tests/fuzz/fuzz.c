@@ -1,0 +1,238 @@
+/* A fuzz target over check and run. The library, and the engine of
+ * bench/twin.c as well, are held against the simulator: answers and every
+ * byte of every buffer, guard bytes included. A difference ends in abort().
+ *
+ * An input is: a byte of flags, a byte for the lent buffers, two bytes for
+ * the length of the plan's part, the plan's part, the turns' part. Flags:
+ *   1  the plan's part is the file itself; else steps are made from it, four
+ *      bytes each, so that most files are accepted
+ *   2  turns as they are; else reduced below the count of workers
+ *   4  a starting memory of many values; else of zeros
+ *   8  each turn eight times
+ * The byte for the buffers: 0 to 7 name a wrong length, others none. */
+#include <stdint.h>
+#include <stdio.h>
+#include <stdlib.h>
+#include <string.h>
+
+#include "../../bench/twin.h"
+#include "tampermauve.h"
+
+typedef uint32_t check_call(const uint8_t *, size_t);
+typedef uint32_t run_call(const uint8_t *, size_t, const uint8_t *, size_t,
+                          uint8_t *, size_t, uint8_t *, size_t, uint8_t *,
+                          size_t, uint8_t *, size_t);
+
+check_call reference_check;
+run_call reference_run;
+
+int LLVMFuzzerTestOneInput(const uint8_t *data, size_t size);
+
+enum {
+    RECORD = 7,
+    MOST_FILE = 7238,
+    MOST_TURNS = 65536,
+    GUARD = 32,
+    GUARD_BYTE = 0xA7,
+    BUFFERS = 6
+};
+
+/* Memory, log, report, work, file, turns, in this order everywhere. */
+enum { FILE_AT = 4, TURNS_AT = 5 };
+static const char *const NAMES[BUFFERS] = {"memory", "log",  "report",
+                                           "work",   "file", "turns"};
+static const size_t LENGTHS[4] = {2048, 8256, 16, 32768};
+
+/* Room for the longest of the buffers with its guards. */
+struct buffer {
+    uint8_t bytes[MOST_TURNS + 2 * GUARD];
+    size_t len;
+};
+
+struct call {
+    struct buffer buffers[BUFFERS];
+};
+
+static struct call given, left_by_reference, left_by_engine;
+
+static uint8_t *start(struct buffer *b)
+{
+    return b->bytes + GUARD;
+}
+
+static void begin(struct buffer *b, size_t len, uint8_t old)
+{
+    b->len = len;
+    memset(b->bytes, GUARD_BYTE, GUARD);
+    memset(start(b), old, len);
+    memset(start(b) + len, GUARD_BYTE, GUARD);
+}
+
+static void copy_call(struct call *to, const struct call *from)
+{
+    for (int i = 0; i < BUFFERS; i++) {
+        to->buffers[i].len = from->buffers[i].len;
+        memcpy(to->buffers[i].bytes, from->buffers[i].bytes,
+               from->buffers[i].len + 2 * GUARD);
+    }
+}
+
+static uint32_t play(run_call *run, struct call *c)
+{
+    struct buffer *b = c->buffers;
+    return run(start(&b[FILE_AT]), b[FILE_AT].len, start(&b[TURNS_AT]),
+               b[TURNS_AT].len, start(&b[0]), b[0].len, start(&b[1]), b[1].len,
+               start(&b[2]), b[2].len, start(&b[3]), b[3].len);
+}
+
+static void differs(const char *engine, const char *what, size_t at)
+{
+    fprintf(stderr, "%s differs from the simulator: %s, %zu\n", engine, what, at);
+    abort();
+}
+
+static size_t first_difference(const struct buffer *one, const struct buffer *other)
+{
+    size_t at = 0;
+    while (one->bytes[at] == other->bytes[at])
+        at++;
+    return at;
+}
+
+static void compare(const char *engine, check_call *check, run_call *run,
+                    uint32_t checked, uint32_t ran)
+{
+    struct buffer *file = &left_by_engine.buffers[FILE_AT];
+    copy_call(&left_by_engine, &given);
+    if (check(start(file), file->len) != checked)
+        differs(engine, "answer of check", checked);
+    if (play(run, &left_by_engine) != ran)
+        differs(engine, "answer of run", ran);
+    for (int i = 0; i < BUFFERS; i++) {
+        const struct buffer *ours = &left_by_engine.buffers[i];
+        const struct buffer *theirs = &left_by_reference.buffers[i];
+        if (memcmp(ours->bytes, theirs->bytes, ours->len + 2 * GUARD) != 0)
+            differs(engine, NAMES[i], first_difference(ours, theirs) - GUARD);
+    }
+}
+
+/* --- From an input to a call -------------------------------------------- */
+
+static void put_record(struct buffer *file, unsigned worker, unsigned op,
+                       unsigned reg, unsigned number)
+{
+    uint8_t *to = start(file) + file->len;
+    const uint8_t bytes[RECORD] = {0x4D,
+                                   0x50,
+                                   (uint8_t)worker,
+                                   (uint8_t)op,
+                                   (uint8_t)reg,
+                                   (uint8_t)(number & 255),
+                                   (uint8_t)(number >> 8)};
+    if (file->len + RECORD > MOST_FILE)
+        return;
+    memcpy(to, bytes, RECORD);
+    file->len += RECORD;
+}
+
+/* A step from four bytes; its operands are mostly in range. */
+static void put_step(struct buffer *file, unsigned worker, const uint8_t *from)
+{
+    static const uint8_t ops[16] = {16, 17, 18, 19, 20, 21, 22, 32,
+                                    33, 34, 35, 36, 37, 38, 18, 33};
+    static const uint16_t most[7] = {65535, 2046, 2046, 3, 3, 127, 127};
+    unsigned op = ops[from[0] & 15], number = from[2] | (unsigned)from[3] << 8;
+    unsigned reg = op < 32 ? from[1] & 3 : 0;
+    if (op == 17 || op == 18)
+        number = number % 2048;
+    else if (op == 21 || op == 22)
+        number = 1 + number % 8;
+    else if (op < 32)
+        number = op == 16 ? number : number & 3;
+    else
+        number = op == 38 ? 0 : number & 7;
+    if (from[0] == 255)
+        number = op < 32 ? most[op - 16] : 15;
+    put_record(file, worker, op, reg, number);
+}
+
+/* The first byte has the count of workers and of barriers, the next eight
+ * their sizes; the top bit of a step's first byte goes on to the next worker. */
+static void make_file(struct buffer *file, const uint8_t *from, size_t len)
+{
+    unsigned workers, worker = 0;
+    file->len = 0;
+    if (len < 9)
+        return;
+    workers = 1 + (from[0] & 7);
+    put_record(file, workers, 0, 0, 0);
+    for (unsigned barrier = 0; barrier < 8; barrier++)
+        if (from[1 + barrier] != 0)
+            put_record(file, 0, 1, barrier, 1 + (from[1 + barrier] & 7));
+    for (size_t at = 9; at + 4 <= len; at += 4) {
+        if (from[at] & 128 && worker + 1 < workers)
+            worker += 1;
+        put_step(file, worker, from + at);
+    }
+}
+
+static void make_turns(struct buffer *turns, const uint8_t *from, size_t len,
+                       unsigned flags, unsigned workers)
+{
+    size_t times = flags & 8 ? 8 : 1;
+    size_t at = 0;
+    begin(turns, 0, 0);
+    for (size_t i = 0; i < len; i++)
+        for (size_t t = 0; t < times && at < MOST_TURNS; t++)
+            start(turns)[at++] =
+                flags & 2 || workers == 0 ? from[i] : (uint8_t)(from[i] % workers);
+    turns->len = at;
+}
+
+static void make_lent(unsigned flags, unsigned wrong)
+{
+    struct buffer *memory = &given.buffers[0];
+    for (unsigned i = 0; i < 4; i++) {
+        size_t len = LENGTHS[i];
+        if (wrong / 2 == i && wrong < 8)
+            len = wrong % 2 ? len + 1 : len - 1;
+        begin(&given.buffers[i], len, (uint8_t)(0x31 + i));
+    }
+    for (size_t i = 0; i < memory->len; i++)
+        start(memory)[i] = flags & 4 ? (uint8_t)(i * 37 >> 3) : 0;
+}
+
+static void make_call(const uint8_t *data, size_t size)
+{
+    struct buffer *file = &given.buffers[FILE_AT], *turns = &given.buffers[TURNS_AT];
+    unsigned flags = data[0], wrong = data[1];
+    size_t len = data[2] | (size_t)data[3] << 8;
+    size -= 4;
+    data += 4;
+    len = len > size ? size : len;
+    begin(file, len > MOST_FILE ? MOST_FILE : len, 0);
+    if (flags & 1)
+        memcpy(start(file), data, file->len);
+    else
+        make_file(file, data, len);
+    make_turns(turns, data + len, size - len, flags,
+               file->len > 2 ? start(file)[2] : 0);
+    memset(start(file) + file->len, GUARD_BYTE, GUARD);
+    memset(start(turns) + turns->len, GUARD_BYTE, GUARD);
+    make_lent(flags, wrong);
+}
+
+int LLVMFuzzerTestOneInput(const uint8_t *data, size_t size)
+{
+    struct buffer *file = &left_by_reference.buffers[FILE_AT];
+    uint32_t checked, ran;
+    if (size < 4)
+        return 0;
+    make_call(data, size);
+    copy_call(&left_by_reference, &given);
+    checked = reference_check(start(file), file->len);
+    ran = play(reference_run, &left_by_reference);
+    compare("the library", tampermauve_check, tampermauve_run, checked, ran);
+    compare("the twin", twin_check, twin_run, checked, ran);
+    return 0;
+}

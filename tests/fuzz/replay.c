@@ -1,0 +1,31 @@
+/* Feeds kept inputs to the fuzz target, without a fuzzer. Ends by abort() at
+ * the first difference; prints how many inputs there were. */
+#include <stdint.h>
+#include <stdio.h>
+#include <stdlib.h>
+
+int LLVMFuzzerTestOneInput(const uint8_t *data, size_t size);
+
+static int replay(const char *path)
+{
+    static uint8_t data[1 << 20];
+    FILE *in = fopen(path, "rb");
+    size_t size;
+    if (in == NULL) {
+        fprintf(stderr, "%s: cannot be opened\n", path);
+        return 1;
+    }
+    size = fread(data, 1, sizeof data, in);
+    fclose(in);
+    LLVMFuzzerTestOneInput(data, size);
+    return 0;
+}
+
+int main(int argc, char **argv)
+{
+    for (int i = 1; i < argc; i++)
+        if (replay(argv[i]))
+            return 1;
+    printf("%d inputs replayed\n", argc - 1);
+    return argc > 1 ? 0 : 1;
+}

@@ -1,0 +1,121 @@
+#!/bin/sh
+# Builds the host programs plainly and with the address and undefined-behaviour
+# sanitizers, and tests them; the plain ones under valgrind as well.
+#
+# tests/hosts.sh [ARCHIVE] [INCLUDE]
+# ARCHIVE has the library's two calls (default target/staticlib/libtampermauve.a,
+# `twin` for the engine of bench/twin.c under the library's names); INCLUDE is
+# the folder of tampermauve.h (default include).
+set -eu
+cd "$(dirname "$0")/.."
+archive=${1:-target/staticlib/libtampermauve.a}
+include=${2:-include}
+cc=${CC:-cc}
+strict="-std=c99 -O2 -g -Wall -Wextra -Werror -pedantic"
+work=$(mktemp -d)
+trap 'rm -rf "$work"' EXIT
+
+if [ "$archive" = twin ]; then
+    $cc $strict -Dtwin_check=tampermauve_check -Dtwin_run=tampermauve_run \
+        -c bench/twin.c -o "$work/twin.o"
+    archive=$work/twin.o
+fi
+
+build() { # FOLDER FLAGS
+    mkdir "$work/$1"
+    for name in approve reprint; do
+        $cc $strict $2 -I "$include" -I hosts hosts/$name.c hosts/host.c \
+            "$archive" -o "$work/$1/$name"
+    done
+}
+
+fail() {
+    echo "hosts: $*"
+    exit 1
+}
+
+# expect STATUS TEXT COMMAND...: the command ends and prints so.
+expect() {
+    status=$1
+    text=$2
+    shift 2
+    got=0
+    said=$("$@" 2> "$work/errors") || got=$?
+    [ "$got" -eq "$status" ] || fail "$* ended with $got: $(cat "$work/errors")"
+    [ "$said" = "$text" ] || fail "$* printed: $said"
+}
+
+# A record: its mark, then worker, op, register and both bytes of the number.
+plan_record() {
+    # shellcheck disable=SC2059
+    printf "$(printf '\\115\\120\\%03o\\%03o\\%03o\\%03o\\%03o' "$@")"
+}
+
+# Two workers wait and then add at a page border; the third wakes both.
+make_plans() {
+    {
+        plan_record 3 0 0 0 0
+        for worker in 0 1; do
+            plan_record $worker 32 0 0 0
+            plan_record $worker 34 0 2 0
+            plan_record $worker 17 0 255 0
+            plan_record $worker 16 1 1 0
+            plan_record $worker 19 0 1 0
+            plan_record $worker 18 0 255 0
+            plan_record $worker 33 0 0 0
+        done
+        plan_record 2 35 0 2 0
+        plan_record 2 36 0 2 0
+    } > "$work/plan"
+    { plan_record 1 0 0 0 0; plan_record 0 32 0 0 0; plan_record 0 34 0 0 0; } > "$work/stuck"
+    { plan_record 1 0 0 0 0; plan_record 0 17 0 255 7; } > "$work/refused"
+    head -c 8000 /dev/zero > "$work/long"
+}
+
+report='finished: 26 moving turns, 3 rounds completed, 11 log records
+worker 0: exited
+worker 1: exited
+worker 2: exited'
+
+test_hosts() { # FOLDER [RUNNER...]
+    where=$work/$1
+    shift
+    expect 0 "$report" "$@" "$where/approve" "$work/plan" "$where/kept"
+    expect 0 "$report
+memory: the same
+log: the same
+report: the same" "$@" "$where/reprint" "$work/plan" "$where/kept" 7
+    head -c 2048 /dev/zero | tr '\000' '\377' > "$where/ones"
+    expect 0 "$report" "$@" "$where/approve" "$work/plan" "$where/more" "$where/ones"
+    # A byte of each kept file changed must be told.
+    printf '\001' | dd of="$where/kept.log" bs=1 seek=3 conv=notrunc status=none
+    printf '\011' | dd of="$where/kept.memory" bs=1 seek=2047 conv=notrunc status=none
+    expect 1 "$report
+memory: differs at byte 2047, 9 kept, 0 now
+log: differs at byte 3, 1 kept, 0 now
+report: the same" "$@" "$where/reprint" "$work/plan" "$where/kept" 8
+    expect 0 "stuck: 3 moving turns, 1 rounds completed, 2 log records
+worker 0: waiting on a condition" "$@" "$where/approve" "$work/stuck" "$where/stuck"
+    expect 1 "refused 7 at record 1: an operand out of range" \
+        "$@" "$where/approve" "$work/refused" "$where/none"
+    [ ! -e "$where/none.start" ] || fail "a refused plan was kept"
+    expect 1 "refused 1 at record 0: the file is empty, cut or too long" \
+        "$@" "$where/approve" "$work/long" "$where/none"
+    expect 2 "" "$@" "$where/approve" "$work/nothing" "$where/none"
+    expect 2 "" "$@" "$where/approve" "$work/plan" "$where/none" "$work/plan"
+    expect 2 "" "$@" "$where/reprint" "$work/plan" "$where/none" 7
+    expect 2 "" "$@" "$where/reprint" "$work/plan" "$where/kept" 0
+}
+
+make_plans
+build plain ""
+build sanitized "-fsanitize=address,undefined -fno-sanitize-recover=all"
+test_hosts plain
+test_hosts sanitized
+if command -v valgrind > /dev/null; then
+    rm "$work/plain/kept."*
+    test_hosts plain valgrind --quiet --error-exitcode=9
+    echo "hosts: plain, sanitized and under valgrind as expected"
+else
+    echo "hosts: plain and sanitized as expected; valgrind is not there"
+fi
