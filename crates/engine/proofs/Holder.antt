@@ -1,7 +1,7 @@
 -- The holder's step: what its parts ask follows from the state that is shown, and the decision is the rule of the definitions.
 use Prim.Native.Nat.{ℕ, _+_, _*_, _≤_, _<_}
-use mathlib.Core.Bool.{Bool, true, false, cond}
-use mathlib.Core.Path.{_≡_, refl, sym, ap, _∙_, subst}
+use mathlib.Core.Bool.{Bool, cond}
+use mathlib.Core.Path.{_≡_, sym, ap, _∙_, subst}
 use mathlib.Core.List.{List, [], _∷_, _++_}
 use native.Mathlib.Omega.{arith}
 use lib.Dec.{eqb}
@@ -31,8 +31,8 @@ use Rattle.rules.proofs.Codes.{op-sync, operand-sync}
 use Rattle.moves.proofs.Owned.{sync-kind}
 use Rattle.engine.specs.declared.state.Tally.{Tally}
 use Rattle.engine.specs.declared.hold.Decision.{Decision}
-use Rattle.engine.specs.Shows.{idle, Shows}
-use Rattle.engine.specs.Held.{keyOf, sizeBy, Asking, Decided, Settled}
+use Rattle.engine.specs.Shows.{Shows}
+use Rattle.engine.specs.Held.{keyOf, Asking, Decided, Settled}
 use Rattle.engine.specs.Moving.{Holding}
 use Rattle.engine.proofs.Facts as facts
 use Rattle.engine.proofs.Facts.{Holder, ruleAt, applied, hold-core, list-known, next-known}

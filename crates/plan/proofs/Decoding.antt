@@ -1,11 +1,10 @@
 -- What the decoder finds, by the mark.
 use mathlib.Core.Bool.{Bool, true, false, cond}
-use mathlib.Core.Path.{_≡_, refl, ap, sym}
+use mathlib.Core.Path.{_≡_, ap, sym}
 use lib.Dec.{eqb}
 use borrow.Author.Tests.{eq-eqb, ne-eqb}
 use Rattle.protocol.specs.Format.{Record, planMark}
 use Rattle.plan.specs.Answer.{bodyOf, decodedOf}
-use Rattle.plan.specs.declared.decode.Decoded.{Decoded}
 use Rattle.plan.specs.declared.decode.Decoded.the-variants.{Read, Unmarked}
 
 by-mark : (r : Record) (b : Bool) → eqb (r .mark) planMark ≡ b → cond b (Read (bodyOf r)) Unmarked ≡ decodedOf r

@@ -1,20 +1,20 @@
 -- The check's laws, by record index: one record of the reading, and the barrier records.
 use Prim.Native.Nat.{ℕ, zero, suc, _+_, _-_, _*_, _%_, _<_, _≤_}
-use mathlib.Core.Bool.{Bool, true, false, cond, not, _&&_, _||_, true≢false}
+use mathlib.Core.Bool.{Bool, true, false, cond, not, _&&_, _||_}
 use mathlib.Core.Path.{_≡_, refl, sym, ap, _∙_, subst, subst⁻¹}
-use mathlib.Core.List.{List, [], _∷_, _++_, append-assoc}
+use mathlib.Core.List.{List, [], _∷_, _++_}
 use native.Mathlib.Omega.{arith}
 use native.Mathlib.Numerals.{add-one}
 use native.Mathlib.Decide.{ℕ-discrete}
 use lib.Dec.{leb, ltb, eqb}
 use lib.ListN.{length, getD, set, replicate, length-set, getD-replicate}
 use lib.Seq.{getD-set-same, getD-set-other}
-use borrow.Author.Tests.{lt-ltb, le-ltb, ltb-true, ltb-false, leb-false, eq-eqb, ne-eqb, eqb-true, eqb-false}
+use borrow.Author.Tests.{ltb-false, leb-false, eq-eqb, ne-eqb}
 use Rattle.protocol.specs.Format as format
 use Rattle.protocol.specs.Format.{Record, recordFrom, recordsFrom, workersIn, isBarrier, isStep, known, rowIn, sizeIn}
 use Rattle.protocol.specs.Refusals as protocol
 use Rattle.protocol.specs.Refusals.{anyOf, ruled, refuseIf, holds, checkRecords, recordRule, laterRule, barrierRule}
-use Rattle.protocol.proofs.Records.{one as one-of, or-left, or-right, or-false, lowIn, openedIn, names, reaches, picks, topIn, topIn-kept, topIn-raised, names-new, sizeIn-other, sizeIn-new}
+use Rattle.protocol.proofs.Records.{one as one-of, or-left, or-right, or-false, reaches, picks, topIn, topIn-kept, topIn-raised, names-new, sizeIn-other, sizeIn-new}
 use Rattle.protocol.proofs.Taken.{barrier-no-step}
 use Rattle.protocol.proofs.Prefix.{Read as PrefixRead, read-first, read-more}
 use Rattle.plan.specs.Answer.{bodyOf, decodedOf}

@@ -1,20 +1,19 @@
 -- The skips: the code's test, from where each worker's steps begin, is the protocol's, by the steps behind a skip.
-use Prim.Native.Nat.{ℕ, zero, suc, _+_, _-_, _*_, _<_, _≤_}
-use mathlib.Core.Bool.{Bool, true, false, cond, _&&_, _||_, true≢false}
-use mathlib.Core.Path.{_≡_, refl, sym, ap, _∙_, subst, subst⁻¹}
-use mathlib.Core.List.{List, [], _∷_, _++_}
+use Prim.Native.Nat.{ℕ, zero, suc, _+_, _-_, _<_, _≤_}
+use mathlib.Core.Bool.{Bool, true, _&&_, _||_}
+use mathlib.Core.Path.{_≡_, sym, ap, _∙_, subst}
+use mathlib.Core.List.{List}
 use native.Mathlib.Omega.{arith}
 use native.Mathlib.Numerals.{add-one}
 use native.Mathlib.Decide.{decLt}
 use lib.Dec.{leb, ltb, eqb}
 use lib.ListN.{length, getD, drop}
 use borrow.Author.Tests.{le-leb, eqb-true}
-use Rattle.protocol.specs.Format as format
-use Rattle.protocol.specs.Format.{Record, recordFrom, recordsFrom, known, rowIn, isStep, isStepOf, workersIn, stepsIn, firstIn}
+use Rattle.protocol.specs.Format.{Record, recordsFrom, known, rowIn, isStep, stepsIn, firstIn}
 use Rattle.protocol.specs.Refusals as protocol
 use Rattle.protocol.specs.Refusals.{ruled, refuseIf, holds, checkSkips, skipRule}
-use Rattle.protocol.proofs.Records.{split, ltb-same, openedIn, topIn, from, first-least, first-unopened, first-inside}
-use Rattle.protocol.proofs.Prefix.{blank, Read}
+use Rattle.protocol.proofs.Records.{split, ltb-same, from, first-least, first-unopened}
+use Rattle.protocol.proofs.Prefix.{blank}
 use Rattle.plan.specs.Answer.{bodyOf}
 use Rattle.plan.specs.Reading.{recordAt, before}
 use Rattle.plan.specs.Skipping.{isSkip, tooFar, Laid}

@@ -1,23 +1,23 @@
 -- The step records: what the code keeps of the records before one decides its rule, and stays true of one record more.
-use Prim.Native.Nat.{ℕ, zero, suc, _+_, _-_, _*_, _<_, _≤_}
+use Prim.Native.Nat.{ℕ, zero, suc, _+_, _-_, _<_, _≤_}
 use mathlib.Core.Bool.{Bool, true, false, cond, not, _&&_, _||_, true≢false}
 use mathlib.Core.Path.{_≡_, refl, sym, ap, _∙_, subst, subst⁻¹}
-use mathlib.Core.Logic.{_⊎_, inl, inr, ⊎-elim}
-use mathlib.Core.List.{List, [], _∷_, _++_}
-use mathlib.Core.Option.{none, some}
+use mathlib.Core.Logic.{⊎-elim}
+use mathlib.Core.List.{List, _++_}
+use mathlib.Core.Option.{some}
 use native.Mathlib.Omega.{arith}
 use native.Mathlib.Numerals.{add-one}
 use native.Mathlib.Decide.{decLt}
 use lib.Dec.{leb, ltb, eqb}
 use lib.ListN.{length, getD, replicate}
-use borrow.Author.Tests.{lt-ltb, le-ltb, ltb-true, ltb-false, leb-false, eq-eqb, ne-eqb, eqb-true, eqb-false}
+use borrow.Author.Tests.{lt-ltb, le-ltb, ltb-false, eqb-true}
 use Rattle.protocol.specs.Format as format
 use Rattle.protocol.specs.Format.{Record, recordsFrom, rowIn, rowOf, isBarrier, isStep, workersIn, sizeIn, stepsIn, firstIn}
 use Rattle.protocol.specs.Refusals as protocol
 use Rattle.protocol.specs.Refusals.{anyOf, refuseIf, holds, ruled, operandsOutside, stepRule, barrierRule, laterRule}
-use Rattle.protocol.proofs.Records.{one, split, or-left, or-right, openedIn, names, picks, reaches, topIn-raised, sizeIn-other, first-unopened, first-one-opened, first-inside}
-use Rattle.protocol.proofs.Taken.{StepTaken, BarrierTaken, later-taken, passes}
-use Rattle.protocol.proofs.Prefix.{Read, read-more, first-step}
+use Rattle.protocol.proofs.Records.{one, split, or-right, openedIn, names, picks, reaches, topIn-raised, sizeIn-other, first-unopened, first-one-opened, first-inside}
+use Rattle.protocol.proofs.Taken.{StepTaken, later-taken, passes}
+use Rattle.protocol.proofs.Prefix.{Read, first-step}
 use Rattle.plan.specs.Answer.{bodyOf, decodedOf}
 use Rattle.plan.specs.Reading.{recordAt, before, verdictFrom}
 use Rattle.plan.specs.Stepping.{readSteps, stepRuling, laterRuling, Opened, StepsSoFar}

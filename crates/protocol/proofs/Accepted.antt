@@ -1,16 +1,16 @@
 -- What an accepted file is: its records are read as `Prefix` says, its skips stay inside, and the plan that it holds is sound.
 use Prim.Native.Nat.{ℕ, zero, suc, _+_, _*_, _%_, _<_, _≤_}
-use mathlib.Core.Bool.{Bool, true, false, cond, not, _&&_, _||_, true≢false, false≢true}
+use mathlib.Core.Bool.{Bool, true, cond, not, _&&_, _||_, false≢true}
 use mathlib.Core.Path.{_≡_, refl, sym, ap, _∙_, subst, subst⁻¹}
 use mathlib.Core.List.{List, [], _∷_, _++_, map, append-assoc, append-nil}
 use mathlib.Core.Option.{none, some}
 use native.Mathlib.Omega.{arith}
 use native.Mathlib.Decide.{decLt}
-use lib.Dec.{leb, ltb, eqb}
+use lib.Dec.{ltb, eqb}
 use lib.ListN.{length, getD, drop, length-append, length-map, List·getD-map, List·getD-eq-default}
 use borrow.Author.Tests.{ltb-false, eqb-true, eqb-false, not-false}
-use Rattle.protocol.specs.Format.{Record, planMark, known, rowIn, recordsFrom, recordCount, records, isBarrier, isStep, workersIn, stepsIn, Step, sync, exit, own, skipZero, skipNonzero, firstIn, sizeIn, barrierCount, countFrom, upTo, planIn, planOf}
-use Rattle.protocol.specs.Refusals.{Refusal, Rule, Verdict, accepted, refused, ruled, holds, refuseIf, badMark, badPlan, badLength, outside, lengthRule, planRule, laterRule, recordRule, skipTooFar, skipRule, checkSkips, checkRecords, check}
+use Rattle.protocol.specs.Format.{Record, planMark, known, rowIn, recordsFrom, recordCount, records, isStep, workersIn, stepsIn, Step, sync, exit, own, skipZero, skipNonzero, firstIn, sizeIn, barrierCount, countFrom, upTo, planIn, planOf}
+use Rattle.protocol.specs.Refusals.{Refusal, Rule, Verdict, accepted, refused, ruled, holds, badMark, badPlan, badLength, outside, lengthRule, planRule, laterRule, recordRule, skipTooFar, skipRule, checkSkips, checkRecords, check}
 use Rattle.protocol.specs.Steps.{stepsOf, stepAt}
 use Rattle.protocol.specs.Turns.{workersOf}
 use Rattle.protocol.proofs.Records.{one, or-left, or-right, and-left, and-right, first-unopened, first-inside}

@@ -1,19 +1,19 @@
 -- The records that a reading has taken so far, and what is known of them: where each worker's steps stand, how many they are, that their operands
 -- are in range and their barriers have a size.
-use Prim.Native.Nat.{ℕ, zero, suc, _+_, _-_, min, _<_, _≤_}
-use mathlib.Core.Bool.{Bool, true, false, cond, not, _&&_, _||_, true≢false, false≢true}
+use Prim.Native.Nat.{ℕ, suc, _+_, _-_, min, _<_, _≤_}
+use mathlib.Core.Bool.{Bool, true, false, cond, not, _&&_, _||_, true≢false}
 use mathlib.Core.Path.{_≡_, refl, sym, ap, _∙_, subst, subst⁻¹}
-use mathlib.Core.Logic.{_⊎_, inl, inr, ⊎-elim}
+use mathlib.Core.Logic.{⊎-elim}
 use mathlib.Core.List.{List, [], _∷_, _++_}
 use native.Mathlib.Omega.{arith}
 use native.Mathlib.Decide.{ℕ-discrete, decLt}
-use lib.Dec.{leb, ltb, eqb}
+use lib.Dec.{leb, eqb}
 use lib.ListN.{length, getD, drop, length-append, drop-of-length-le, List·getD-append}
 use lib.Seq.{getD-at, drop-append-le}
-use borrow.Author.Tests.{lt-ltb, le-ltb, le-leb, lt-leb, eq-eqb, ne-eqb, ltb-false, leb-true, leb-false, eqb-true, eqb-false}
+use borrow.Author.Tests.{eq-eqb, ne-eqb, leb-true, leb-false, eqb-true, eqb-false}
 use Rattle.protocol.specs.Format.{Record, Step, sync, exit, rowOf, isBarrier, isStep, isStepOf, workersIn, sizeIn, stepsIn, stepOf, firstIn}
 use Rattle.protocol.specs.Refusals.{anyOf, holds, operandsOutside, laterRule}
-use Rattle.protocol.proofs.Records.{one, one-step, split, or-false, and-right, topIn, anyOf-one, topIn-kept, topIn-raised, reaches, lowIn, openedIn, names, from, names-new, sizeIn-other, sizeIn-new, stepsIn-one, first-unopened, first-inside, first-grows, first-one-opened, first-one-unopened}
+use Rattle.protocol.proofs.Records.{one, one-step, split, or-false, and-right, topIn, anyOf-one, topIn-kept, topIn-raised, openedIn, names, names-new, sizeIn-other, sizeIn-new, stepsIn-one, first-unopened, first-inside, first-grows, first-one-opened, first-one-unopened}
 use Rattle.protocol.proofs.Taken.{StepTaken, BarrierTaken, later-taken}
 
 -- no record: its op has no row

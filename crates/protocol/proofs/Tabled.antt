@@ -6,7 +6,7 @@ use mathlib.Core.List.{List, [], _∷_}
 use mathlib.Core.Option.{Option, none, some}
 use lib.Dec.{eqb}
 use borrow.Author.Tests.{eqb-true}
-use Rattle.protocol.specs.Format.{Record, Own, assign, load, store, add, subtract, skipZero, skipNonzero, Sync, Step, own, sync, exit, Row, table, rowIn, rowOf, known, isStep, stepOf}
+use Rattle.protocol.specs.Format.{Record, Own, assign, load, store, add, subtract, skipZero, skipNonzero, Step, own, sync, exit, Row, table, rowIn, rowOf, known, isStep, stepOf}
 use Rattle.protocol.specs.Rounds.{opOf}
 
 -- what holds of every row

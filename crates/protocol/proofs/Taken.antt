@@ -1,14 +1,13 @@
 -- What it means that a record is taken: the rules of a later record, as facts.
 use Prim.Native.Nat.{ℕ, suc, _<_, _≤_}
-use mathlib.Core.Bool.{Bool, true, false, cond, not, _&&_, _||_, true≢false, false≢true}
+use mathlib.Core.Bool.{Bool, true, false, cond, not, _&&_, _||_, true≢false}
 use mathlib.Core.Path.{_≡_, refl, sym, ap, _∙_}
 use mathlib.Core.Logic.{_⊎_, inl, inr}
-use mathlib.Core.List.{List, [], _∷_}
-use mathlib.Core.Option.{none, some}
+use mathlib.Core.List.{List}
 use native.Mathlib.Omega.{arith}
 use lib.Dec.{leb, ltb, eqb}
 use lib.ListN.{length}
-use borrow.Author.Tests.{ltb-false, leb-false, eqb-true, eqb-false, not-false}
+use borrow.Author.Tests.{ltb-false, leb-false, eqb-true}
 use Rattle.protocol.specs.Format.{Record, rowIn, rowOf, known, isBarrier, isStep, workersIn, stepsIn, barrierCount}
 use Rattle.protocol.specs.Refusals.{Refusal, badPlan, badBarrier, Rule, holds, refuseIf, anyOf, outside, barrierRule, operandsOutside, stepRule, laterRule}
 use Rattle.protocol.proofs.Records.{or-left, or-right, reaches, picks, lowIn, openedIn, names}

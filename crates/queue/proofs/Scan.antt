@@ -1,6 +1,6 @@
 -- The laws of a scan, which takes workers off one queue and puts those that pass a test on another.
 -- Assumes nothing.
-use Prim.Native.Nat.{ℕ, zero, suc, _+_, _-_, _≤_, _<_}
+use Prim.Native.Nat.{ℕ, zero, suc, _+_, _≤_, _<_}
 use native.Mathlib.Omega.{arith}
 use mathlib.Core.Bool.{Bool, true, false, cond, not, Bool·beq}
 use mathlib.Core.Path.{_≡_, refl, ap, sym, _∙_}

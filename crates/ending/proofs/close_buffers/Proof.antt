@@ -4,54 +4,37 @@ use mathlib.Core.Path.{ap, _∙_}
 use Rattle.journal.specs.Bytes.{reportOf}
 use Rattle.ending.proofs.close_buffers.Statement.{statement}
 use Rattle.ending.proofs.close_buffers.Tie as tie
-use Rattle.ending.proofs.close_buffers.Reads as reads
-use Rattle.ending.proofs.close_buffers.Lts as lts
-use Rattle.ending.proofs.end_of.Reads as end-of-reads
-use Rattle.journal.proofs.log.clear_behind.Reads as clear-behind-reads
-use Rattle.journal.proofs.report.write_report.Reads as write-report-reads
-use Rattle.pages.proofs.clear.Reads as clear-reads
 
--- src/lib.rt:65:9
 end-of-requires : tie.Need-end-of-requires
 end-of-requires c κs = search needs
 
--- src/lib.rt:69:16
 cast-t10 : tie.Need-cast-t10
 cast-t10 c = search needs
 
--- src/lib.rt:70:17
 cast-t11 : tie.Need-cast-t11
 cast-t11 c = search needs
 
--- src/lib.rt:71:18
 cast-t12 : tie.Need-cast-t12
 cast-t12 c = search needs
 
--- src/lib.rt:73:5
 clear-behind-requires : tie.Need-clear-behind-requires
 clear-behind-requires c κs = search needs
 
--- src/lib.rt:74:5
 clear-requires : tie.Need-clear-requires
 clear-requires c κs = search needs
 
--- src/lib.rt:75:5
 write-report-requires : tie.Need-write-report-requires
 write-report-requires c κs = search needs
 
--- src/lib.rt:53:1
 same-length : tie.Need-same-length
 same-length c = search needs
 
--- src/lib.rt:53:1
 same-length-2 : tie.Need-same-length-2
 same-length-2 c = search needs
 
--- src/lib.rt:53:1
 same-length-3 : tie.Need-same-length-3
 same-length-3 c = search needs
 
--- src/lib.rt:53:1
 returns : tie.Need-returns
 returns c =
     let a = c .before .before .before .before .before .before .before .before .before .before .before .before .before .before .before .before .before .before .before .args in

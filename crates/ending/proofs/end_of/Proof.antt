@@ -4,28 +4,19 @@ use mathlib.Core.Path.{sym, _∙_}
 use Rattle.ending.proofs.Gone.{going, over}
 use Rattle.ending.proofs.end_of.Statement.{statement}
 use Rattle.ending.proofs.end_of.Tie as tie
-use Rattle.ending.proofs.end_of.Reads as reads
-use Rattle.ending.proofs.end_of.Lts as lts
-use Rattle.ending.proofs.all_gone.Reads as all-gone-reads
-use Rattle.queue.proofs.Queue.is_empty.Reads as is-empty-reads
 
--- src/lib.rt:36:9
 is-empty-requires : tie.Need-is-empty-requires
 is-empty-requires c κs = search needs
 
--- src/lib.rt:37:9
 returns : tie.Need-returns
 returns c = going _ _ (c .before .is-empty .result) (c .before .is-empty .ensures) (c .if1 .taken)
 
--- src/lib.rt:39:8
 all-gone-requires : tie.Need-all-gone-requires
 all-gone-requires c κs = search needs
 
--- src/lib.rt:40:9
 returns-2 : tie.Need-returns-2
 returns-2 c = over _ _ (c .before .before .before .is-empty .result) true (c .before .before .before .is-empty .ensures) (c .before .before .if1 .left) (sym (c .if2 .taken) ∙ c .before .all-gone .ensures)
 
--- src/lib.rt:32:1
 returns-3 : tie.Need-returns-3
 returns-3 c = over _ _ (c .before .before .before .is-empty .result) false (c .before .before .before .is-empty .ensures) (c .before .before .if1 .left) (sym (c .if2 .left) ∙ c .before .all-gone .ensures)
 

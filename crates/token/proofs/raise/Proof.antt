@@ -11,11 +11,6 @@ use Rattle.token.specs.Token.{raised}
 use Rattle.token.proofs.Raising.{raised-none, raised-one, one-less}
 use Rattle.token.proofs.raise.Statement.{statement}
 use Rattle.token.proofs.raise.Tie as tie
-use Rattle.token.proofs.raise.Reads as reads
-use Rattle.token.proofs.raise.Lts as lts
-use Rattle.queue.proofs.Queue.first.Reads as first-reads
-use Rattle.queue.proofs.Queue.is_empty.Reads as is-empty-reads
-use Rattle.queue.proofs.Queue.rest.Reads as rest-reads
 
 abbrev Inv-loop : tie.InvT-loop
 Inv-loop can₀ left₀ can left = Good left × Below 8 (listOf left) × (raised (listOf left) can ≡ raised (listOf left₀) can₀)
@@ -31,31 +26,24 @@ worker c =
     let at = c .before .before .before .loop in
     omega (arith, c .first .ensures, below-first 8 (listOf (at .left)) (some (c .before)) (at .inv .1))
 
--- src/lib.rt:44:5
 loop-holds : tie.Need-loop-holds Inv-loop μ-loop
 loop-holds c = (c .pre .0, c .pre .1, refl)
 
--- src/lib.rt:44:12
 is-empty-requires : tie.Need-is-empty-requires Inv-loop μ-loop
 is-empty-requires c κs = search needs
 
--- src/lib.rt:45:17
 first-requires : tie.Need-first-requires Inv-loop μ-loop
 first-requires c κs = some c
 
--- src/lib.rt:46:9
 element-write-can : tie.Need-element-write-can Inv-loop μ-loop
 element-write-can c = omega (arith, worker c)
 
--- src/lib.rt:47:9
 rest-requires : tie.Need-rest-requires Inv-loop μ-loop
 rest-requires c κs = (c .before .before .before .loop .inv .0, some (c .before))
 
--- src/lib.rt:44:5
 loop-less : tie.Need-loop-less Inv-loop μ-loop
 loop-less c = omega (arith, ap length (c .rest .ensures .list), one-less (listOf (c .before .before .before .before .loop .left)) (some (c .before .before)))
 
--- src/lib.rt:44:5
 loop-again : tie.Need-loop-again Inv-loop μ-loop
 loop-again c = let at = c .before .before .before .before .loop in
     let rest = c .rest .ensures in
@@ -65,7 +53,6 @@ loop-again c = let at = c .before .before .before .before .loop in
       rw (rest .list, c .before .first .ensures) (raised-one ws (at .can) (some (c .before .before)) ∙ at .inv .2),
     )
 
--- src/lib.rt:39:1
 returns : tie.Need-returns Inv-loop μ-loop
 returns c = let at = c .before .before .loop in
     sym (raised-none (listOf (at .left)) (at .can) (sym (c .before .is-empty .ensures) ∙ not-false _ (c .if1 .left))) ∙ at .inv .2

@@ -8,27 +8,16 @@ use Rattle.queue.specs.List.{listOf}
 use Rattle.queue.proofs.Laws.{some-left, below-first}
 use Rattle.token.proofs.turn_over.Statement.{statement}
 use Rattle.token.proofs.turn_over.Tie as tie
-use Rattle.token.proofs.turn_over.Reads as reads
-use Rattle.token.proofs.turn_over.Lts as lts
-use Rattle.queue.proofs.Queue.count.Reads as count-reads
-use Rattle.queue.proofs.Queue.empty.Reads as empty-reads
-use Rattle.queue.proofs.Queue.first.Reads as first-reads
-use Rattle.queue.proofs.Queue.is_empty.Reads as is-empty-reads
-use Rattle.token.proofs.raise.Reads as raise-reads
 
--- src/lib.rt:51:5
 element-write-can : tie.Need-element-write-can
 element-write-can c = search needs
 
--- src/lib.rt:52:9
 is-empty-requires : tie.Need-is-empty-requires
 is-empty-requires c κs = search needs
 
--- src/lib.rt:53:21
 first-requires : tie.Need-first-requires
 first-requires c κs = some-left (c .before .before .args .list) (c .before .is-empty .ensures) (c .if1 .taken)
 
--- src/lib.rt:54:9
 element-write-can-2 : tie.Need-element-write-can-2
 element-write-can-2 c =
     let some = some-left (c .before .before .before .args .list) (c .before .before .is-empty .ensures) (c .before .if1 .taken) in
@@ -36,7 +25,6 @@ element-write-can-2 c =
     let e = c .first .ensures in
     omega arith
 
--- src/lib.rt:55:9
 returns : tie.Need-returns
 returns c =
     let left : noneLeft (listOf (c .before .before .before .args .list)) ≡ false = sym (c .before .before .is-empty .ensures) ∙ not-true _ (c .before .if1 .taken) in
@@ -45,23 +33,18 @@ returns c =
       goes = λ e. record { here = refl; later = refl; behind = refl; counted = refl; marks = rw (c .first .ensures) };
     }
 
--- src/lib.rt:62:5
 raise-requires : tie.Need-raise-requires
 raise-requires c κs = search needs
 
--- src/lib.rt:63:9
 empty-requires : tie.Need-empty-requires
 empty-requires c κs = search needs
 
--- src/lib.rt:64:9
 count-requires : tie.Need-count-requires
 count-requires c κs = search needs
 
--- src/lib.rt:69:17
 add-t18 : tie.Need-add-t18
 add-t18 c = search needs
 
--- src/lib.rt:47:1
 returns-2 : tie.Need-returns-2
 returns-2 c =
     let none : noneLeft (listOf (c .before .before .before .before .before .before .args .list)) ≡ true = sym (c .before .before .before .before .before .is-empty .ensures) ∙ not-false _ (c .before .before .before .before .if1 .left) in

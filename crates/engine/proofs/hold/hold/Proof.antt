@@ -8,19 +8,10 @@ use Rattle.engine.proofs.Deciding.{below-keep}
 use Rattle.engine.proofs.Holder.{asking, list-below, next-below, rounds-fit, moves-fit, records-fit, place-small, shown}
 use Rattle.engine.proofs.hold.hold.Statement.{statement}
 use Rattle.engine.proofs.hold.hold.Tie as tie
-use Rattle.engine.proofs.hold.hold.Reads as reads
-use Rattle.engine.proofs.hold.hold.Lts as lts
-use Rattle.engine.proofs.hold.decide.Reads as decide-reads
-use Rattle.engine.proofs.hold.record_step.Reads as record-step-reads
-use Rattle.engine.proofs.hold.settle_bytes.Reads as settle-bytes-reads
-use Rattle.rules.proofs.fates.settle_fates.Reads as settle-fates-reads
-use Rattle.token.proofs.turn_over.Reads as turn-over-reads
 
--- src/hold.rt:114:9
 decide-requires : tie.Need-decide-requires
 decide-requires c κs = asking _ _ _ _ _ _ _ _ _ _ _ (c .before .before .before .before .before .pre)
 
--- src/hold.rt:119:5
 settle-fates-requires : tie.Need-settle-fates-requires
 settle-fates-requires c κs =
     let p = c .before .before .before .before .before .before .before .before .before .before .pre in
@@ -36,45 +27,36 @@ settle-fates-requires c κs =
       },
     )
 
--- src/hold.rt:120:5
 settle-bytes-requires : tie.Need-settle-bytes-requires
 settle-bytes-requires c κs = let p = c .before .before .before .before .before .before .before .before .before .before .before .before .before .pre in (p .here .shows .bytes .sizes, asking _ _ _ _ _ _ _ _ _ _ _ p .holder)
 
--- src/hold.rt:121:5
 record-step-requires : tie.Need-record-step-requires
 record-step-requires c κs =
     let p = c .before .before .before .before .before .before .before .before .before .before .before .before .before .before .before .before .before .pre in
     let q = asking _ _ _ _ _ _ _ _ _ _ _ p in
     (q .holder, q .operand, rounds-fit _ _ _ _ _ _ _ _ _ _ _ p, let k = records-fit _ _ _ _ _ _ _ _ _ _ _ p in let z = p .here .shows .logged .size in omega arith)
 
--- src/hold.rt:125:9
 turn-over-requires : tie.Need-turn-over-requires
 turn-over-requires c κs =
     let p = c .before .before .before .before .before .before .before .before .before .before .before .before .before .before .before .before .before .before .before .before .before .before .before .before .pre in
     let x = c .before .before .before .before .before .before .before .before .before .before .before .before .before .before .before .before .before .before .decide .ensures in
     (asking _ _ _ _ _ _ _ _ _ _ _ p .holder, rounds-fit _ _ _ _ _ _ _ _ _ _ _ p, list-below _ _ _ _ _ _ _ _ _ _ _ p _ x, x .moved .next .good, next-below _ _ _ _ _ _ _ _ _ _ _ p _ x)
 
--- src/hold.rt:131:20
 add-t35 : tie.Need-add-t35
 add-t35 c = let h = place-small _ _ _ _ _ _ _ _ _ _ _ (c .before .before .before .before .before .before .before .before .before .before .before .before .before .before .before .before .before .before .before .before .before .before .before .before .before .before .before .before .before .pre) in omega arith
 
--- src/hold.rt:142:20
 add-t25 : tie.Need-add-t25
 add-t25 c = let h = moves-fit _ _ _ _ _ _ _ _ _ _ _ (c .before .before .before .before .before .before .before .before .before .before .before .before .before .before .before .before .before .before .before .before .before .before .before .before .before .before .before .before .before .before .pre) in omega arith
 
--- src/hold.rt:144:22
 add-t38 : tie.Need-add-t38
 add-t38 c = let h = records-fit _ _ _ _ _ _ _ _ _ _ _ (c .before .before .before .before .before .before .before .before .before .before .before .before .before .before .before .before .before .before .before .before .before .before .before .before .before .before .before .before .before .before .before .pre) in omega arith
 
--- src/hold.rt:97:1
 same-length : tie.Need-same-length
 same-length c = c .before .before .before .before .before .before .before .before .before .before .before .before .before .before .before .before .before .settle-bytes .ensures .size
 
--- src/hold.rt:97:1
 same-length-2 : tie.Need-same-length-2
 same-length-2 c = search needs
 
--- src/hold.rt:97:1
 returns : tie.Need-returns
 returns c =
     λ h.

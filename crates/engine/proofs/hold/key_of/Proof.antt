@@ -2,30 +2,22 @@ use borrow.Author.Needs.{needs}
 use borrow.Author.Tests.{eq-eqb, ne-eqb}
 use Rattle.engine.proofs.hold.key_of.Statement.{statement}
 use Rattle.engine.proofs.hold.key_of.Tie as tie
-use Rattle.engine.proofs.hold.key_of.Reads as reads
-use Rattle.engine.proofs.hold.key_of.Lts as lts
 
--- src/hold.rt:31:20
 mul-result : tie.Need-mul-result
 mul-result c = search needs
 
--- src/hold.rt:31:16
 add-result : tie.Need-add-result
 add-result c = search needs
 
--- src/hold.rt:31:9
 returns : tie.Need-returns
 returns c = simp (eq-eqb _ _ (c .before .if1 .taken))
 
--- src/hold.rt:33:9
 mul-result-2 : tie.Need-mul-result-2
 mul-result-2 c = search needs
 
--- src/hold.rt:33:5
 add-result-2 : tie.Need-add-result-2
 add-result-2 c = search needs
 
--- src/hold.rt:26:1
 returns-2 : tie.Need-returns-2
 returns-2 c = simp (ne-eqb _ _ (c .before .if1 .left))
 

@@ -3,46 +3,34 @@ use mathlib.Core.Path.{refl}
 use Rattle.engine.proofs.Settling.{settled-as}
 use Rattle.engine.proofs.hold.settle_bytes.Statement.{statement}
 use Rattle.engine.proofs.hold.settle_bytes.Tie as tie
-use Rattle.engine.proofs.hold.settle_bytes.Reads as reads
-use Rattle.engine.proofs.hold.settle_bytes.Lts as lts
-use Rattle.pages.proofs.commit.Reads as commit-reads
-use Rattle.pages.proofs.discard.Reads as discard-reads
 
 enum-told : tie.Need-enum-told
 enum-told c = search needs
 
--- src/hold.rt:69:43
 enum-told-2 : tie.Need-enum-told-2
 enum-told-2 c = search needs
 
--- src/hold.rt:69:29
 commit-requires : tie.Need-commit-requires
 commit-requires c κs = search needs
 
--- src/hold.rt:70:39
 enum-told-3 : tie.Need-enum-told-3
 enum-told-3 c = search needs
 
--- src/hold.rt:70:24
 discard-requires : tie.Need-discard-requires
 discard-requires c κs = search needs
 
--- src/hold.rt:63:1
 returns : tie.Need-returns
 returns c = settled-as (c .enum-told .given .1) (record { shared = refl; mine = refl; others = λ v n. refl; size = refl; markSize = refl })
 
--- src/hold.rt:63:1
 same-length : tie.Need-same-length
 same-length c = search needs
 
--- src/hold.rt:63:1
 returns-2 : tie.Need-returns-2
 returns-2 c =
     let e = c .before .before .commit .ensures in
     settled-as (c .before .before .before .before .before .enum-told2 .given .1)
     (record { shared = e .shared; mine = e .dropped .mine; others = e .dropped .others; size = e .size; markSize = e .dropped .markSize })
 
--- src/hold.rt:63:1
 returns-3 : tie.Need-returns-3
 returns-3 c =
     let e = c .discard .ensures (c .before .before .before .before .before .before .args .work .now) in

@@ -2,22 +2,16 @@ use borrow.Author.Needs.{needs}
 use borrow.Author.Tests.{eq-eqb, ne-eqb}
 use Rattle.engine.proofs.hold.size_by.Statement.{statement}
 use Rattle.engine.proofs.hold.size_by.Tie as tie
-use Rattle.engine.proofs.hold.size_by.Reads as reads
-use Rattle.engine.proofs.hold.size_by.Lts as lts
 
--- src/hold.rt:56:9
 returns : tie.Need-returns
 returns c = simp (ne-eqb _ _ (c .if1 .taken))
 
--- src/hold.rt:58:13
 cast-b : tie.Need-cast-b
 cast-b c = search needs
 
--- src/hold.rt:59:5
 element-copy-out-result : tie.Need-element-copy-out-result
 element-copy-out-result c = c .before .before .before .pre (c .before .if1 .left)
 
--- src/hold.rt:51:1
 returns-2 : tie.Need-returns-2
 returns-2 c = simp (eq-eqb _ _ (c .before .before .if1 .left))
 

@@ -6,31 +6,21 @@ use Rattle.token.specs.Token.{raised}
 use Rattle.engine.proofs.Playing.{up-to-below}
 use Rattle.engine.proofs.play.first_round.Statement.{statement}
 use Rattle.engine.proofs.play.first_round.Tie as tie
-use Rattle.engine.proofs.play.first_round.Reads as reads
-use Rattle.engine.proofs.play.first_round.Lts as lts
-use Rattle.queue.proofs.Queue.empty.Reads as empty-reads
-use Rattle.queue.proofs.Queue.up_to.Reads as up-to-reads
-use Rattle.token.proofs.raise.Reads as raise-reads
 
--- src/play.rt:17:9
 up-to-requires : tie.Need-up-to-requires
 up-to-requires c κs = search needs
 
--- src/play.rt:18:9
 empty-requires : tie.Need-empty-requires
 empty-requires c κs = search needs
 
--- src/play.rt:19:9
 empty-requires-2 : tie.Need-empty-requires-2
 empty-requires-2 c κs = search needs
 
--- src/play.rt:20:5
 raise-requires : tie.Need-raise-requires
 raise-requires c κs =
     let h = c .before .before .before .up-to .ensures in
     (h .good, up-to-below (c .before .before .before .before .pre) (h .list))
 
--- src/play.rt:13:1
 returns : tie.Need-returns
 returns c =
     let h = c .before .before .before .before .up-to .ensures in

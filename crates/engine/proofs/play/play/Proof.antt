@@ -1,6 +1,6 @@
 use native.Mathlib.Omega.{arith}
 use borrow.Author.Needs.{needs}
-use Prim.Native.Nat.{ℕ, _-_, _≤_}
+use Prim.Native.Nat.{_-_, _≤_}
 use mathlib.Core.Logic.{⊎-elim}
 use lib.ListN.{length}
 use lib.Seq.{take-all}
@@ -10,11 +10,6 @@ use Rattle.engine.specs.Shows.{Shows}
 use Rattle.engine.proofs.Playing.{after, plan-sound, started, turn-small, stepping, moved, passed, shows-as}
 use Rattle.engine.proofs.play.play.Statement.{statement}
 use Rattle.engine.proofs.play.play.Tie as tie
-use Rattle.engine.proofs.play.play.Reads as reads
-use Rattle.engine.proofs.play.play.Lts as lts
-use Rattle.engine.proofs.play.first_round.Reads as first-round-reads
-use Rattle.engine.proofs.step.step.Reads as step-reads
-use Rattle.worker.proofs.Worker.new.Reads as new-reads
 
 abbrev Inv-loop : tie.InvT-loop
 Inv-loop file n sizes firsts turns memory₀ log₀ work₀ workers₀ on₀ can₀ copied₀ t₀ i₀ memory log work workers on can copied t i =
@@ -24,61 +19,47 @@ abbrev μ-loop : tie.MeasureT-loop
 μ-loop file n sizes firsts turns memory₀ log₀ work₀ workers₀ on₀ can₀ copied₀ t₀ i₀ memory log work workers on can copied t i =
     length turns - i
 
--- src/play.rt:49:9
 new-requires : tie.Need-new-requires Inv-loop μ-loop
 new-requires c κs = search needs
 
--- src/play.rt:54:9
 first-round-requires : tie.Need-first-round-requires Inv-loop μ-loop
 first-round-requires c κs = omega (arith, c .before .before .before .before .before .before .before .pre .workers, plan-sound (c .before .before .before .before .before .before .before .pre) .workers)
 
--- src/play.rt:56:5
 loop-holds : tie.Need-loop-holds Inv-loop μ-loop
 loop-holds c =
     let p = c .before .before .before .before .before .before .before .before .pre in
     (omega arith, started p (c .before .before .new .result) (c .before .before .new .ensures) (c .first-round .ensures) (p .bytes) (p .room))
 
--- src/play.rt:57:17
 shared-slice-read-w : tie.Need-shared-slice-read-w Inv-loop μ-loop
 shared-slice-read-w c = search needs
 
--- src/play.rt:57:17
 cast-w : tie.Need-cast-w Inv-loop μ-loop
 cast-w c = omega (arith, turn-small (c .before .before .before .before .before .before .before .before .before .before .before .pre) _ (c .before .loop-test .taken))
 
--- src/play.rt:58:12
 array-read-if1 : tie.Need-array-read-if1 Inv-loop μ-loop
 array-read-if1 c = turn-small (c .before .before .before .before .before .before .before .before .before .before .before .pre) _ (c .before .loop-test .taken)
 
--- src/play.rt:59:21
 mul-v : tie.Need-mul-v Inv-loop μ-loop
 mul-v c = omega (arith, turn-small (c .before .before .before .before .before .before .before .before .before .before .before .before .pre) _ (c .before .before .loop-test .taken))
 
--- src/play.rt:59:21
 array-copy-out-v : tie.Need-array-copy-out-v Inv-loop μ-loop
 array-copy-out-v c = turn-small (c .before .before .before .before .before .before .before .before .before .before .before .before .pre) _ (c .before .before .loop-test .taken)
 
--- src/play.rt:60:17
 step-requires : tie.Need-step-requires Inv-loop μ-loop
 step-requires c κs = stepping (c .before .before .before .before .before .before .before .before .before .before .before .before .before .before .before .before .before .before .before .pre) _ (c .before .before .before .before .before .before .before .before .before .loop-test .taken) (c .before .before .before .before .before .before .before .before .before .before .loop .inv .1) (c .before .before .before .before .before .before .before .if1 .taken)
 
--- src/play.rt:75:13
 mul-workers : tie.Need-mul-workers Inv-loop μ-loop
 mul-workers c = omega (arith, turn-small (c .before .before .before .before .before .before .before .before .before .before .before .before .before .before .before .before .before .before .before .before .before .before .before .before .before .before .before .pre) _ (c .before .before .before .before .before .before .before .before .before .before .before .before .before .before .before .before .before .loop-test .taken))
 
--- src/play.rt:75:13
 array-set-from-workers : tie.Need-array-set-from-workers Inv-loop μ-loop
 array-set-from-workers c = turn-small (c .before .before .before .before .before .before .before .before .before .before .before .before .before .before .before .before .before .before .before .before .before .before .before .before .before .before .before .pre) _ (c .before .before .before .before .before .before .before .before .before .before .before .before .before .before .before .before .before .loop-test .taken)
 
--- src/play.rt:78:9
 add-i : tie.Need-add-i Inv-loop μ-loop
 add-i c = omega (arith, c .before .before .loop-test .taken, c .before .before .before .before .before .before .before .before .before .before .before .before .good .1 .1 .1 .1 .0)
 
--- src/play.rt:56:5
 loop-less : tie.Need-loop-less Inv-loop μ-loop
 loop-less c = search needs
 
--- src/play.rt:56:5
 loop-again : tie.Need-loop-again Inv-loop μ-loop
 loop-again c =
     let p = c .before .before .before .before .before .before .before .before .before .before .before .before .pre in
@@ -91,19 +72,15 @@ loop-again c =
           (c .if1 .came),
     )
 
--- src/play.rt:36:1
 same-length : tie.Need-same-length Inv-loop μ-loop
 same-length c = search needs
 
--- src/play.rt:36:1
 same-length-2 : tie.Need-same-length-2 Inv-loop μ-loop
 same-length-2 c = search needs
 
--- src/play.rt:36:1
 same-length-3 : tie.Need-same-length-3 Inv-loop μ-loop
 same-length-3 c = search needs
 
--- src/play.rt:36:1
 returns : tie.Need-returns Inv-loop μ-loop
 returns c =
     let a = c .before .before .before .before .before .before .before .before .before .before .args in

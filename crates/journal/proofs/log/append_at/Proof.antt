@@ -4,111 +4,82 @@ use native.Mathlib.Numerals.{towards-suc}
 use lib.ListN.{length-set}
 use Rattle.journal.proofs.log.append_at.Statement.{statement}
 use Rattle.journal.proofs.log.append_at.Tie as tie
-use Rattle.journal.proofs.log.append_at.Reads as reads
-use Rattle.journal.proofs.log.append_at.Lts as lts
-use Rattle.journal.proofs.log.byte_of.Reads as byte-of-reads
 
--- src/log.rt:30:14
 mul-at : tie.Need-mul-at
 mul-at c = search needs
 
--- src/log.rt:31:15
 byte-of-requires : tie.Need-byte-of-requires
 byte-of-requires c κs = search needs
 
--- src/log.rt:31:5
 slice-write-log : tie.Need-slice-write-log
 slice-write-log c = search needs
 
--- src/log.rt:33:19
 byte-of-requires-2 : tie.Need-byte-of-requires-2
 byte-of-requires-2 c κs = search needs
 
--- src/log.rt:33:9
 add-log : tie.Need-add-log
 add-log c = search needs
 
--- src/log.rt:33:5
 slice-write-log-2 : tie.Need-slice-write-log-2
 slice-write-log-2 c = simp length-set (omega arith)
 
--- src/log.rt:35:19
 byte-of-requires-3 : tie.Need-byte-of-requires-3
 byte-of-requires-3 c κs = search needs
 
--- src/log.rt:35:9
 add-log-2 : tie.Need-add-log-2
 add-log-2 c = search needs
 
--- src/log.rt:35:5
 slice-write-log-3 : tie.Need-slice-write-log-3
 slice-write-log-3 c = simp length-set (omega arith)
 
--- src/log.rt:37:19
 byte-of-requires-4 : tie.Need-byte-of-requires-4
 byte-of-requires-4 c κs = search needs
 
--- src/log.rt:37:9
 add-log-3 : tie.Need-add-log-3
 add-log-3 c = search needs
 
--- src/log.rt:37:5
 slice-write-log-4 : tie.Need-slice-write-log-4
 slice-write-log-4 c = simp length-set (omega arith)
 
--- src/log.rt:39:19
 byte-of-requires-5 : tie.Need-byte-of-requires-5
 byte-of-requires-5 c κs = search needs
 
--- src/log.rt:39:9
 add-log-4 : tie.Need-add-log-4
 add-log-4 c = search needs
 
--- src/log.rt:39:5
 slice-write-log-5 : tie.Need-slice-write-log-5
 slice-write-log-5 c = simp length-set (omega arith)
 
--- src/log.rt:41:19
 byte-of-requires-6 : tie.Need-byte-of-requires-6
 byte-of-requires-6 c κs = search needs
 
--- src/log.rt:41:9
 add-log-5 : tie.Need-add-log-5
 add-log-5 c = search needs
 
--- src/log.rt:41:5
 slice-write-log-6 : tie.Need-slice-write-log-6
 slice-write-log-6 c = simp length-set (omega arith)
 
--- src/log.rt:43:19
 byte-of-requires-7 : tie.Need-byte-of-requires-7
 byte-of-requires-7 c κs = search needs
 
--- src/log.rt:43:9
 add-log-6 : tie.Need-add-log-6
 add-log-6 c = search needs
 
--- src/log.rt:43:5
 slice-write-log-7 : tie.Need-slice-write-log-7
 slice-write-log-7 c = simp length-set (omega arith)
 
--- src/log.rt:45:19
 byte-of-requires-8 : tie.Need-byte-of-requires-8
 byte-of-requires-8 c κs = search needs
 
--- src/log.rt:45:9
 add-log-7 : tie.Need-add-log-7
 add-log-7 c = search needs
 
--- src/log.rt:45:5
 slice-write-log-8 : tie.Need-slice-write-log-8
 slice-write-log-8 c = simp length-set (omega arith)
 
--- src/log.rt:26:1
 same-length : tie.Need-same-length
 same-length c = simp length-set
 
--- src/log.rt:26:1
 returns : tie.Need-returns
 returns c = simp (towards-suc, c .byte-of8 .ensures, c .before .byte-of7 .ensures, c .before .before .byte-of6 .ensures, c .before .before .before .byte-of5 .ensures, c .before .before .before .before .byte-of4 .ensures, c .before .before .before .before .before .byte-of3 .ensures, c .before .before .before .before .before .before .byte-of2 .ensures, c .before .before .before .before .before .before .before .byte-of .ensures)
 

@@ -7,35 +7,25 @@ use borrow.Rule.Slice.PartMut.{putMid}
 use Rattle.journal.proofs.Packing.{cleared}
 use Rattle.journal.proofs.log.clear_behind.Statement.{statement}
 use Rattle.journal.proofs.log.clear_behind.Tie as tie
-use Rattle.journal.proofs.log.clear_behind.Reads as reads
-use Rattle.journal.proofs.log.clear_behind.Lts as lts
-use Rattle.pages.proofs.clear.Reads as clear-reads
 
--- src/log.rt:46:14
 mul-at : tie.Need-mul-at
 mul-at c = search needs
 
--- src/log.rt:47:18
 sub-clear : tie.Need-sub-clear
 sub-clear c = search needs
 
--- src/log.rt:47:18
 part-clear-start : tie.Need-part-clear-start
 part-clear-start c = search needs
 
--- src/log.rt:47:18
 part-clear-end : tie.Need-part-clear-end
 part-clear-end c = search needs
 
--- src/log.rt:47:5
 clear-requires : tie.Need-clear-requires
 clear-requires c κs = search needs
 
--- src/log.rt:42:1
 same-length : tie.Need-same-length
 same-length c = search needs
 
--- src/log.rt:42:1
 returns : tie.Need-returns
 returns c =
     let a = c .before .before .before .before .before .args in

@@ -3,50 +3,37 @@ use native.Mathlib.Omega.{arith}
 use Rattle.journal.proofs.Packing.{packs}
 use Rattle.journal.proofs.log.packed.Statement.{statement}
 use Rattle.journal.proofs.log.packed.Tie as tie
-use Rattle.journal.proofs.log.packed.Reads as reads
-use Rattle.journal.proofs.log.packed.Lts as lts
 
--- src/log.rt:14:32
 mul-tail : tie.Need-mul-tail
 mul-tail c = search needs
 
--- src/log.rt:14:16
 add-tail : tie.Need-add-tail
 add-tail c = search needs
 
--- src/log.rt:15:32
 mul-body : tie.Need-mul-body
 mul-body c = search needs
 
--- src/log.rt:15:16
 add-body : tie.Need-add-body
 add-body c = search needs
 
--- src/log.rt:15:52
 mul-body-2 : tie.Need-mul-body-2
 mul-body-2 c = search needs
 
--- src/log.rt:15:16
 add-body-2 : tie.Need-add-body-2
 add-body-2 c = search needs
 
--- src/log.rt:16:13
 mul-result : tie.Need-mul-result
 mul-result c = search needs
 
--- src/log.rt:16:5
 add-result : tie.Need-add-result
 add-result c = search needs
 
--- src/log.rt:16:38
 mul-result-2 : tie.Need-mul-result-2
 mul-result-2 c = search needs
 
--- src/log.rt:16:5
 add-result-2 : tie.Need-add-result-2
 add-result-2 c = search needs
 
--- src/log.rt:11:1
 returns : tie.Need-returns
 returns c = packs (c .args .round) (c .args .worker) (c .args .op) (c .args .number) (c .args .outcome) (omega arith) (omega arith) (omega arith) (omega arith) (omega arith)
 

@@ -3,30 +3,22 @@ use borrow.Author.Tests.{le-leb, lt-leb, lt-ltb, le-ltb}
 use native.Mathlib.Omega.{arith}
 use Rattle.journal.proofs.report.fate_byte.Statement.{statement}
 use Rattle.journal.proofs.report.fate_byte.Tie as tie
-use Rattle.journal.proofs.report.fate_byte.Reads as reads
-use Rattle.journal.proofs.report.fate_byte.Lts as lts
 
--- src/report.rt:32:9
 returns : tie.Need-returns
 returns c = simp (le-leb _ _ (c .if1 .taken))
 
--- src/report.rt:35:16
 cast-result : tie.Need-cast-result
 cast-result c = search needs
 
--- src/report.rt:35:9
 returns-2 : tie.Need-returns-2
 returns-2 c = simp (lt-leb _ _ (c .before .if1 .left), lt-ltb _ _ (c .if2 .taken)) (omega arith)
 
--- src/report.rt:37:9
 cast-result-2 : tie.Need-cast-result-2
 cast-result-2 c = search needs
 
--- src/report.rt:37:5
 add-result : tie.Need-add-result
 add-result c = search needs
 
--- src/report.rt:28:1
 returns-3 : tie.Need-returns-3
 returns-3 c = simp (lt-leb _ _ (c .before .if1 .left), le-ltb _ _ (c .if2 .left))
 

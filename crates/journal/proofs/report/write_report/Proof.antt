@@ -9,169 +9,124 @@ use native.Mathlib.Omega.{arith}
 use lib.ListN.{length-set}
 use Rattle.journal.proofs.report.write_report.Statement.{statement}
 use Rattle.journal.proofs.report.write_report.Tie as tie
-use Rattle.journal.proofs.report.write_report.Reads as reads
-use Rattle.journal.proofs.report.write_report.Lts as lts
-use Rattle.journal.proofs.report.fate_byte.Reads as fate-byte-reads
-use Rattle.journal.proofs.report.high.Reads as high-reads
-use Rattle.journal.proofs.report.low.Reads as low-reads
 
--- src/report.rt:46:5
 slice-write-report : tie.Need-slice-write-report
 slice-write-report c = search needs
 
--- src/report.rt:47:5
 slice-write-report-2 : tie.Need-slice-write-report-2
 slice-write-report-2 c = search needs
 
--- src/report.rt:48:17
 low-requires : tie.Need-low-requires
 low-requires c κs = search needs
 
--- src/report.rt:48:5
 slice-write-report-3 : tie.Need-slice-write-report-3
 slice-write-report-3 c = search needs
 
--- src/report.rt:49:17
 high-requires : tie.Need-high-requires
 high-requires c κs = search needs
 
--- src/report.rt:49:5
 slice-write-report-4 : tie.Need-slice-write-report-4
 slice-write-report-4 c = search needs
 
--- src/report.rt:50:17
 low-requires-2 : tie.Need-low-requires-2
 low-requires-2 c κs = search needs
 
--- src/report.rt:50:5
 slice-write-report-5 : tie.Need-slice-write-report-5
 slice-write-report-5 c = simp length-set (omega arith)
 
--- src/report.rt:51:17
 high-requires-2 : tie.Need-high-requires-2
 high-requires-2 c κs = search needs
 
--- src/report.rt:51:5
 slice-write-report-6 : tie.Need-slice-write-report-6
 slice-write-report-6 c = simp length-set (omega arith)
 
--- src/report.rt:52:17
 low-requires-3 : tie.Need-low-requires-3
 low-requires-3 c κs = search needs
 
--- src/report.rt:52:5
 slice-write-report-7 : tie.Need-slice-write-report-7
 slice-write-report-7 c = simp length-set (omega arith)
 
--- src/report.rt:53:17
 high-requires-3 : tie.Need-high-requires-3
 high-requires-3 c κs = search needs
 
--- src/report.rt:53:5
 slice-write-report-8 : tie.Need-slice-write-report-8
 slice-write-report-8 c = simp length-set (omega arith)
 
--- src/report.rt:54:27
 element-copy-out-fate-byte : tie.Need-element-copy-out-fate-byte
 element-copy-out-fate-byte c = search needs
 
--- src/report.rt:54:17
 fate-byte-requires : tie.Need-fate-byte-requires
 fate-byte-requires c κs = search needs
 
--- src/report.rt:54:5
 slice-write-report-9 : tie.Need-slice-write-report-9
 slice-write-report-9 c = simp length-set (omega arith)
 
--- src/report.rt:55:27
 element-copy-out-fate-byte-2 : tie.Need-element-copy-out-fate-byte-2
 element-copy-out-fate-byte-2 c = search needs
 
--- src/report.rt:55:17
 fate-byte-requires-2 : tie.Need-fate-byte-requires-2
 fate-byte-requires-2 c κs = search needs
 
--- src/report.rt:55:5
 slice-write-report-10 : tie.Need-slice-write-report-10
 slice-write-report-10 c = simp length-set (omega arith)
 
--- src/report.rt:56:28
 element-copy-out-fate-byte-3 : tie.Need-element-copy-out-fate-byte-3
 element-copy-out-fate-byte-3 c = search needs
 
--- src/report.rt:56:18
 fate-byte-requires-3 : tie.Need-fate-byte-requires-3
 fate-byte-requires-3 c κs = search needs
 
--- src/report.rt:56:5
 slice-write-report-11 : tie.Need-slice-write-report-11
 slice-write-report-11 c = simp length-set (omega arith)
 
--- src/report.rt:57:28
 element-copy-out-fate-byte-4 : tie.Need-element-copy-out-fate-byte-4
 element-copy-out-fate-byte-4 c = search needs
 
--- src/report.rt:57:18
 fate-byte-requires-4 : tie.Need-fate-byte-requires-4
 fate-byte-requires-4 c κs = search needs
 
--- src/report.rt:57:5
 slice-write-report-12 : tie.Need-slice-write-report-12
 slice-write-report-12 c = simp length-set (omega arith)
 
--- src/report.rt:58:28
 element-copy-out-fate-byte-5 : tie.Need-element-copy-out-fate-byte-5
 element-copy-out-fate-byte-5 c = search needs
 
--- src/report.rt:58:18
 fate-byte-requires-5 : tie.Need-fate-byte-requires-5
 fate-byte-requires-5 c κs = search needs
 
--- src/report.rt:58:5
 slice-write-report-13 : tie.Need-slice-write-report-13
 slice-write-report-13 c = simp length-set (omega arith)
 
--- src/report.rt:59:28
 element-copy-out-fate-byte-6 : tie.Need-element-copy-out-fate-byte-6
 element-copy-out-fate-byte-6 c = search needs
 
--- src/report.rt:59:18
 fate-byte-requires-6 : tie.Need-fate-byte-requires-6
 fate-byte-requires-6 c κs = search needs
 
--- src/report.rt:59:5
 slice-write-report-14 : tie.Need-slice-write-report-14
 slice-write-report-14 c = simp length-set (omega arith)
 
--- src/report.rt:60:28
 element-copy-out-fate-byte-7 : tie.Need-element-copy-out-fate-byte-7
 element-copy-out-fate-byte-7 c = search needs
 
--- src/report.rt:60:18
 fate-byte-requires-7 : tie.Need-fate-byte-requires-7
 fate-byte-requires-7 c κs = search needs
 
--- src/report.rt:60:5
 slice-write-report-15 : tie.Need-slice-write-report-15
 slice-write-report-15 c = simp length-set (omega arith)
 
--- src/report.rt:61:28
 element-copy-out-fate-byte-8 : tie.Need-element-copy-out-fate-byte-8
 element-copy-out-fate-byte-8 c = search needs
 
--- src/report.rt:61:18
 fate-byte-requires-8 : tie.Need-fate-byte-requires-8
 fate-byte-requires-8 c κs = search needs
 
--- src/report.rt:61:5
 slice-write-report-16 : tie.Need-slice-write-report-16
 slice-write-report-16 c = simp length-set (omega arith)
 
--- src/report.rt:41:1
 same-length : tie.Need-same-length
 same-length c = simp length-set
 
--- src/report.rt:41:1
 returns : tie.Need-returns
 unfolding reportOf countFrom
 returns c =

@@ -1,6 +1,6 @@
 use borrow.Author.Needs.{needs}
-use Prim.Native.Nat.{ℕ, _≤_}
-use mathlib.Core.Path.{_≡_, ap, sym}
+use Prim.Native.Nat.{_≤_}
+use mathlib.Core.Path.{ap, sym}
 use native.Mathlib.Omega.{arith}
 use Rattle.protocol.specs.Refusals.{Refusal, numberOf, codeOf}
 use Rattle.protocol.specs.Refusals as protocol
@@ -8,9 +8,6 @@ use Rattle.plan.specs.Answer.{refusalOf, verdictOf}
 use Rattle.plan.specs.declared.answer.Verdict.{Verdict}
 use Rattle.plan.proofs.answer.code.Statement.{statement}
 use Rattle.plan.proofs.answer.code.Tie as tie
-use Rattle.plan.proofs.answer.code.Reads as reads
-use Rattle.plan.proofs.answer.code.Lts as lts
-use Rattle.plan.proofs.answer.number.Reads as number-reads
 
 small : (f : Refusal) → numberOf f ≤ 13
 small protocol.badLength = omega arith
@@ -30,35 +27,27 @@ small protocol.badTurn = omega arith
 index : (c : tie.After-number) → c .before .before .v .given .0 .1 .0 ≤ 1033
 index c = c .before .before .before .before .pre _ _ (ap verdictOf (c .before .before .v .given .1))
 
--- src/answer.rt:61:30
 enum-told : tie.Need-enum-told
 enum-told c = search needs
 
--- src/answer.rt:62:26
 enum-known-v : tie.Need-enum-known-v
 enum-known-v c = search needs
 
--- src/answer.rt:62:35
 number-requires : tie.Need-number-requires
 number-requires c κs = search needs
 
--- src/answer.rt:62:54
 cast-result : tie.Need-cast-result
 cast-result c = let h = index c in omega arith
 
--- src/answer.rt:62:47
 mul-result : tie.Need-mul-result
 mul-result c = let h = index c in omega arith
 
--- src/answer.rt:62:35
 add-result : tie.Need-add-result
 add-result c = let h = index c in let n = small (refusalOf (c .before .before .v .given .0 .0)) in let e = c .number .ensures in omega arith
 
--- src/answer.rt:56:1
 returns : tie.Need-returns
 returns c = search needs
 
--- src/answer.rt:56:1
 returns-2 : tie.Need-returns-2
 returns-2 c = rw (c .number .ensures) (sym (ap (λ (v : Verdict). codeOf (verdictOf v)) (c .before .before .v .given .1)))
 

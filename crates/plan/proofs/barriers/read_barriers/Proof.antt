@@ -8,10 +8,6 @@ use Rattle.plan.specs.declared.decode.Decoded.the-variants.{Read, Unmark
 use Rattle.plan.proofs.Readings.{unmarked-step, barrier-step, barrier-more, taken, sizes-first, not-refused, no-barrier}
 use Rattle.plan.proofs.barriers.read_barriers.Statement.{statement}
 use Rattle.plan.proofs.barriers.read_barriers.Tie as tie
-use Rattle.plan.proofs.barriers.read_barriers.Reads as reads
-use Rattle.plan.proofs.barriers.read_barriers.Lts as lts
-use Rattle.plan.proofs.barriers.bad_barrier.Reads as bad-barrier-reads
-use Rattle.plan.proofs.decode.decode.Reads as decode-reads
 
 abbrev Inv-loop : tie.InvT-loop
 Inv-loop file count sizes₀ low₀ i₀ sizes low i =
@@ -20,27 +16,21 @@ Inv-loop file count sizes₀ low₀ i₀ sizes low i =
 abbrev μ-loop : tie.MeasureT-loop
 μ-loop file count sizes₀ low₀ i₀ sizes low i = count - i
 
--- src/barriers.rt:47:5
 loop-holds : tie.Need-loop-holds Inv-loop μ-loop
 loop-holds c = (search needs, c .before .pre .1 .0, sizes-first (c .before .args .file .now) (c .before .pre .1 .1), refl)
 
--- src/barriers.rt:48:45
 mul-decode : tie.Need-mul-decode Inv-loop μ-loop
 mul-decode c = search needs
 
--- src/barriers.rt:48:32
 decode-requires : tie.Need-decode-requires Inv-loop μ-loop
 decode-requires c κs = search needs
 
--- src/barriers.rt:48:27
 enum-known-r : tie.Need-enum-known-r Inv-loop μ-loop
 enum-known-r c = search needs
 
--- src/barriers.rt:50:43
 enum-told : tie.Need-enum-told Inv-loop μ-loop
 enum-told c = search needs
 
--- src/barriers.rt:49:13
 returns : tie.Need-returns Inv-loop μ-loop
 returns c =
     let file = c .before .before .before .before .before .before .args .file .now in
@@ -57,11 +47,9 @@ returns c =
       noBarrier = λ q. not-refused _ _ q;
     }
 
--- src/barriers.rt:58:12
 bad-barrier-requires : tie.Need-bad-barrier-requires Inv-loop μ-loop
 bad-barrier-requires c κs = search needs
 
--- src/barriers.rt:59:13
 returns-2 : tie.Need-returns-2 Inv-loop μ-loop
 returns-2 c =
     let file = c .before .before .before .before .before .before .before .before .before .before .before .args .file .now in
@@ -81,34 +69,27 @@ returns-2 c =
       noBarrier = λ q. not-refused _ _ q;
     }
 
--- src/barriers.rt:65:18
 cast-at : tie.Need-cast-at Inv-loop μ-loop
 cast-at c = search needs
 
--- src/barriers.rt:66:21
 cast-sizes : tie.Need-cast-sizes Inv-loop μ-loop
 cast-sizes c = search needs
 
--- src/barriers.rt:66:9
 array-write-sizes : tie.Need-array-write-sizes Inv-loop μ-loop
 array-write-sizes c = taken _ (c .before .before .before .before .before .before .before .r .given .0 .0) (sym (c .before .before .before .bad-barrier .ensures) ∙ c .before .before .if2 .left) .named
 
--- src/barriers.rt:67:15
 add-low : tie.Need-add-low Inv-loop μ-loop
 add-low c =
     let r = c .before .before .before .before .before .before .before .before .r .given .0 .0 in
     let h : r .register < 8 = taken _ r (sym (c .before .before .before .before .bad-barrier .ensures) ∙ c .before .before .before .if2 .left) .named in
     omega arith
 
--- src/barriers.rt:68:9
 add-i : tie.Need-add-i Inv-loop μ-loop
 add-i c = search needs
 
--- src/barriers.rt:47:5
 loop-less : tie.Need-loop-less Inv-loop μ-loop
 loop-less c = search needs
 
--- src/barriers.rt:47:5
 loop-again : tie.Need-loop-again Inv-loop μ-loop
 loop-again c =
     let file = c .before .before .before .before .before .before .before .before .before .before .before .before .before .before .args .file .now in
@@ -125,7 +106,6 @@ loop-again c =
       (rw fine at (sym step)) ∙ inv .3,
     )
 
--- src/barriers.rt:39:1
 returns-3 : tie.Need-returns-3 Inv-loop μ-loop
 returns-3 c =
     let file = c .before .before .before .args .file .now in
@@ -141,7 +121,6 @@ returns-3 c =
       noBarrier = λ q h. absurd (omega arith);
     }
 
--- src/barriers.rt:39:1
 returns-4 : tie.Need-returns-4 Inv-loop μ-loop
 returns-4 c =
     let file = c .before .before .before .before .before .before .before .before .before .args .file .now in

@@ -1,18 +1,13 @@
 use borrow.Author.Tests.{eq-eqb, ne-eqb}
 use Rattle.plan.proofs.check.bad_length.Statement.{statement}
 use Rattle.plan.proofs.check.bad_length.Tie as tie
-use Rattle.plan.proofs.check.bad_length.Reads as reads
-use Rattle.plan.proofs.check.bad_length.Lts as lts
 
--- src/check.rt:31:9
 returns : tie.Need-returns
 returns c = simp (eq-eqb _ _ (c .if1 .taken))
 
--- src/check.rt:34:9
 returns-2 : tie.Need-returns-2
 returns-2 c = simp (ne-eqb _ _ (c .before .if1 .left), ne-eqb _ _ (c .if2 .taken))
 
--- src/check.rt:27:1
 returns-3 : tie.Need-returns-3
 returns-3 c = simp (ne-eqb _ _ (c .before .if1 .left), eq-eqb _ _ (c .if2 .left))
 

@@ -7,8 +7,6 @@ use Rattle.plan.specs.declared.decode.Record.{Record}
 use borrow.Author.Tests.{lt-ltb, le-ltb, eq-eqb, ne-eqb}
 use Rattle.plan.proofs.check.bad_plan.Statement.{statement}
 use Rattle.plan.proofs.check.bad_plan.Tie as tie
-use Rattle.plan.proofs.check.bad_plan.Reads as reads
-use Rattle.plan.proofs.check.bad_plan.Lts as lts
 
 -- the number decides where all else is right
 last-test : (r : Record) → r .op ≡ 0 → 1 ≤ r .worker → r .worker ≤ 8 → r .register ≡ 0 → not (eqb (r .number) 0) ≡ refusesPlan r
@@ -17,19 +15,15 @@ last-test r o l m g = simp (eq-eqb _ _ o, le-ltb _ _ l, le-ltb _ _ m, eq-eqb _ _
 returns : tie.Need-returns
 returns c = simp (ne-eqb _ _ (c .if1 .taken))
 
--- src/check.rt:46:9
 returns-2 : tie.Need-returns-2
 returns-2 c = simp (eq-eqb _ _ (c .before .before .if1 .left), lt-ltb _ _ (c .if2 .taken))
 
--- src/check.rt:49:9
 returns-3 : tie.Need-returns-3
 returns-3 c = simp (eq-eqb _ _ (c .before .before .before .before .if1 .left), le-ltb _ _ (c .before .before .if2 .left), lt-ltb _ _ (c .if3 .taken))
 
--- src/check.rt:52:9
 returns-4 : tie.Need-returns-4
 returns-4 c = simp (eq-eqb _ _ (c .before .before .before .before .before .before .if1 .left), le-ltb _ _ (c .before .before .before .before .if2 .left), le-ltb _ _ (c .before .before .if3 .left), ne-eqb _ _ (c .if4 .taken))
 
--- src/check.rt:39:1
 returns-5 : tie.Need-returns-5
 returns-5 c = last-test (c .before .before .before .before .before .before .before .before .before .args .r) (c .before .before .before .before .before .before .before .if1 .left) (c .before .before .before .before .before .if2 .left) (c .before .before .before .if3 .left) (c .before .if4 .left)
 

@@ -14,32 +14,19 @@ use Rattle.plan.proofs.Readings.{Body, told, not-refused}
 use Rattle.plan.proofs.Checks.{too-short, sized, unmarked-first, plan-step, plan-taken, steps-so-far, laid, laid-out}
 use Rattle.plan.proofs.check.check.Statement.{statement}
 use Rattle.plan.proofs.check.check.Tie as tie
-use Rattle.plan.proofs.check.check.Reads as reads
-use Rattle.plan.proofs.check.check.Lts as lts
-use Rattle.plan.proofs.barriers.read_barriers.Reads as read-barriers-reads
-use Rattle.plan.proofs.check.bad_length.Reads as bad-length-reads
-use Rattle.plan.proofs.check.bad_plan.Reads as bad-plan-reads
-use Rattle.plan.proofs.check.refused.Reads as refused-reads
-use Rattle.plan.proofs.decode.decode.Reads as decode-reads
-use Rattle.plan.proofs.skips.check_skips.Reads as check-skips-reads
-use Rattle.plan.proofs.steps.read_steps.Reads as read-steps-reads
 
--- src/check.rt:75:8
 bad-length-requires : tie.Need-bad-length-requires
 bad-length-requires c κs = search needs
 
--- src/check.rt:76:9
 refused-requires : tie.Need-refused-requires
 refused-requires c κs = search needs
 
--- src/check.rt:76:9
 returns : tie.Need-returns
 returns c =
     let file = c .before .before .before .before .args .file .now in
     let bad = too-short file (sym (c .before .before .bad-length .ensures) ∙ c .before .if1 .taken) in
     record { verdict = ap verdictOf (c .refused .ensures) ∙ sym bad; layout = λ q. not-refused _ _ (ap verdictOf (sym (c .refused .ensures)) ∙ q) }
 
--- src/check.rt:79:32
 decode-requires : tie.Need-decode-requires
 decode-requires c κs =
     let file = c .before .before .before .args .file .now in
@@ -47,19 +34,15 @@ decode-requires c κs =
     let s = sized file fine in
     omega arith
 
--- src/check.rt:79:23
 enum-known-first : tie.Need-enum-known-first
 enum-known-first c = search needs
 
--- src/check.rt:80:24
 enum-told : tie.Need-enum-told
 enum-told c = search needs
 
--- src/check.rt:80:9
 refused-requires-2 : tie.Need-refused-requires-2
 refused-requires-2 c κs = search needs
 
--- src/check.rt:80:9
 returns-2 : tie.Need-returns-2
 returns-2 c =
     let file = c .before .before .before .before .before .before .before .args .file .now in
@@ -67,15 +50,12 @@ returns-2 c =
     let bad = unmarked-first file fine (sym (c .before .before .before .decode .ensures) ∙ c .before .enum-told .given .1) in
     record { verdict = ap verdictOf (c .refused2 .ensures) ∙ sym bad; layout = λ q. not-refused _ _ (ap verdictOf (sym (c .refused2 .ensures)) ∙ q) }
 
--- src/check.rt:82:8
 bad-plan-requires : tie.Need-bad-plan-requires
 bad-plan-requires c κs = search needs
 
--- src/check.rt:83:9
 refused-requires-3 : tie.Need-refused-requires-3
 refused-requires-3 c κs = search needs
 
--- src/check.rt:83:9
 returns-3 : tie.Need-returns-3
 returns-3 c =
     let file = c .before .before .before .before .before .before .before .before .before .before .args .file .now in
@@ -84,7 +64,6 @@ returns-3 c =
     let bad = plan-step file fine (c .before .before .before .before .first .given .0 .0) true e (sym (c .before .before .bad-plan .ensures) ∙ c .before .if2 .taken) in
     record { verdict = ap verdictOf (c .refused3 .ensures) ∙ sym bad; layout = λ q. not-refused _ _ (ap verdictOf (sym (c .refused3 .ensures)) ∙ q) }
 
--- src/check.rt:85:9
 read-barriers-requires : tie.Need-read-barriers-requires
 read-barriers-requires c κs =
     let file = c .before .before .before .before .before .before .before .before .before .args .file .now in
@@ -96,15 +75,12 @@ read-barriers-requires c κs =
     let s = sized file fine in
     (omega arith, (s .some, ap (λ (r : Body). r .op) (sym (told (recordAt file 0) _ e .1)) ∙ taken .op))
 
--- src/check.rt:87:29
 enum-known-verdict : tie.Need-enum-known-verdict
 enum-known-verdict c = search needs
 
--- src/check.rt:88:9
 refused-requires-4 : tie.Need-refused-requires-4
 refused-requires-4 c κs = search needs
 
--- src/check.rt:88:9
 returns-4 : tie.Need-returns-4
 returns-4 c =
     let file = c .before .before .before .before .before .before .before .before .before .before .before .before .before .before .args .file .now in
@@ -120,7 +96,6 @@ returns-4 c =
 enum-told-2 : tie.Need-enum-told-2
 enum-told-2 c = search needs
 
--- src/check.rt:91:9
 read-steps-requires : tie.Need-read-steps-requires
 read-steps-requires c κs =
     let file = c .before .before .before .before .before .before .before .before .before .before .before .before .before .before .args .file .now in
@@ -133,15 +108,12 @@ read-steps-requires c κs =
     let s = sized file fine in
     (omega arith, steps-so-far file _ _ (c .before .before .before .before .read-barriers .result) br (ap verdictOf (c .before .before .enum-told2 .given .1)) (ap (λ (r : Body). r .worker) (sym (told (recordAt file 0) _ e .1))) (taken .most))
 
--- src/check.rt:93:29
 enum-known-verdict-2 : tie.Need-enum-known-verdict-2
 enum-known-verdict-2 c = search needs
 
--- src/check.rt:94:9
 refused-requires-5 : tie.Need-refused-requires-5
 refused-requires-5 c κs = search needs
 
--- src/check.rt:94:9
 returns-5 : tie.Need-returns-5
 returns-5 c =
     let file = c .before .before .before .before .before .before .before .before .before .before .before .before .before .before .before .before .before .before .before .args .file .now in
@@ -158,7 +130,6 @@ returns-5 c =
 enum-told-3 : tie.Need-enum-told-3
 enum-told-3 c = search needs
 
--- src/check.rt:97:9
 check-skips-requires : tie.Need-check-skips-requires
 check-skips-requires c κs =
     let file = c .before .before .before .before .before .before .before .before .before .before .before .before .before .before .before .before .before .before .before .args .file .now in
@@ -172,7 +143,6 @@ check-skips-requires c κs =
     let ok = ap verdictOf (c .before .before .enum-told3 .given .1) in
     (omega arith, (omega arith, laid file _ _ _ _ steps ok s (ap (λ (r : Body). r .worker) (sym (told (recordAt file 0) _ e .1))) (taken .most)))
 
--- src/check.rt:71:1
 returns-6 : tie.Need-returns-6
 returns-6 c =
     let file = c .before .before .before .before .before .before .before .before .before .before .before .before .before .before .before .before .before .before .before .before .args .file .now in

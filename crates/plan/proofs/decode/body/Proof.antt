@@ -2,55 +2,40 @@ use borrow.Author.Needs.{needs}
 use Rattle.protocol.specs.Format.{recordFrom}
 use Rattle.plan.proofs.decode.body.Statement.{statement}
 use Rattle.plan.proofs.decode.body.Tie as tie
-use Rattle.plan.proofs.decode.body.Reads as reads
-use Rattle.plan.proofs.decode.body.Lts as lts
-use Rattle.plan.proofs.decode.pair.Reads as pair-reads
 
--- src/decode.rt:38:22
 add-t3 : tie.Need-add-t3
 add-t3 c = search needs
 
--- src/decode.rt:38:17
 shared-slice-read-t5 : tie.Need-shared-slice-read-t5
 shared-slice-read-t5 c = search needs
 
--- src/decode.rt:39:18
 add-t6 : tie.Need-add-t6
 add-t6 c = search needs
 
--- src/decode.rt:39:13
 shared-slice-read-t8 : tie.Need-shared-slice-read-t8
 shared-slice-read-t8 c = search needs
 
--- src/decode.rt:40:24
 add-t9 : tie.Need-add-t9
 add-t9 c = search needs
 
--- src/decode.rt:40:19
 shared-slice-read-t11 : tie.Need-shared-slice-read-t11
 shared-slice-read-t11 c = search needs
 
--- src/decode.rt:41:27
 add-pair : tie.Need-add-pair
 add-pair c = search needs
 
--- src/decode.rt:41:22
 shared-slice-read-pair : tie.Need-shared-slice-read-pair
 shared-slice-read-pair c = search needs
 
--- src/decode.rt:41:41
 add-pair-2 : tie.Need-add-pair-2
 add-pair-2 c = search needs
 
--- src/decode.rt:41:36
 shared-slice-read-pair-2 : tie.Need-shared-slice-read-pair-2
 shared-slice-read-pair-2 c = search needs
 
--- src/decode.rt:41:17
 pair-requires : tie.Need-pair-requires
 pair-requires c κs = search needs
 
--- src/decode.rt:33:1
 returns : tie.Need-returns
 unfolding recordFrom
 returns c = rw (c .pair .ensures)

@@ -4,39 +4,28 @@ use Rattle.protocol.specs.Format.{recordFrom}
 use Rattle.plan.proofs.Decoding.{marked, unmarked}
 use Rattle.plan.proofs.decode.decode.Statement.{statement}
 use Rattle.plan.proofs.decode.decode.Tie as tie
-use Rattle.plan.proofs.decode.decode.Reads as reads
-use Rattle.plan.proofs.decode.decode.Lts as lts
-use Rattle.plan.proofs.decode.body.Reads as body-reads
-use Rattle.plan.proofs.decode.pair.Reads as pair-reads
 
--- src/decode.rt:50:13
 shared-slice-read-pair : tie.Need-shared-slice-read-pair
 shared-slice-read-pair c = search needs
 
--- src/decode.rt:50:28
 add-pair : tie.Need-add-pair
 add-pair c = search needs
 
--- src/decode.rt:50:23
 shared-slice-read-pair-2 : tie.Need-shared-slice-read-pair-2
 shared-slice-read-pair-2 c = search needs
 
--- src/decode.rt:50:8
 pair-requires : tie.Need-pair-requires
 pair-requires c κs = search needs
 
--- src/decode.rt:51:9
 returns : tie.Need-returns
 unfolding recordFrom
 returns c =
     let a = c .before .before .before .before .before .args in
     unmarked (recordFrom (a .file .now) (a .at)) (λ q. c .if1 .taken (c .before .pair .ensures ∙ q))
 
--- src/decode.rt:53:19
 body-requires : tie.Need-body-requires
 body-requires c κs = search needs
 
--- src/decode.rt:46:1
 returns-2 : tie.Need-returns-2
 unfolding recordFrom
 returns-2 c =

@@ -11,10 +11,6 @@ use Rattle.plan.proofs.Readings.{Body}
 use Rattle.plan.proofs.Skipped.{worker-below, skips-next}
 use Rattle.plan.proofs.skips.check_skips.Statement.{statement}
 use Rattle.plan.proofs.skips.check_skips.Tie as tie
-use Rattle.plan.proofs.skips.check_skips.Reads as reads
-use Rattle.plan.proofs.skips.check_skips.Lts as lts
-use Rattle.plan.proofs.decode.body.Reads as body-reads
-use Rattle.plan.proofs.skips.too_far.Reads as too-far-reads
 
 all-left : (count : ℕ) → count - 0 ≡ count
 all-left count = omega arith
@@ -28,21 +24,17 @@ Inv-loop file count firsts i₀ i = (i ≤ count) × (checkSkips i (recordsFrom 
 abbrev μ-loop : tie.MeasureT-loop
 μ-loop file count firsts i₀ i = count - i
 
--- src/skips.rt:45:5
 loop-holds : tie.Need-loop-holds Inv-loop μ-loop
 loop-holds c =
     let a = c .before .args in
     (omega arith, ap (λ (k : ℕ). checkSkips 0 (recordsFrom (a .file .now) k 0)) (all-left (a .count)))
 
--- src/skips.rt:46:31
 mul-body : tie.Need-mul-body Inv-loop μ-loop
 mul-body c = search needs
 
--- src/skips.rt:46:20
 body-requires : tie.Need-body-requires Inv-loop μ-loop
 body-requires c κs = search needs
 
--- src/skips.rt:46:12
 too-far-requires : tie.Need-too-far-requires Inv-loop μ-loop
 too-far-requires c κs =
     let a = c .before .before .before .before .args in
@@ -53,7 +45,6 @@ too-far-requires c κs =
       omega arith,
     )
 
--- src/skips.rt:47:13
 returns : tie.Need-returns Inv-loop μ-loop
 returns c =
     let a = c .before .before .before .before .before .before .args in
@@ -64,15 +55,12 @@ returns c =
     let next = skips-next (a .file .now) (a .count) (a .firsts .now) (pre .1 .1) i (c .before .before .before .loop-test .taken) in
     sym (next true (test ∙ c .if1 .taken)) ∙ inv .1
 
--- src/skips.rt:49:9
 add-i : tie.Need-add-i Inv-loop μ-loop
 add-i c = search needs
 
--- src/skips.rt:45:5
 loop-less : tie.Need-loop-less Inv-loop μ-loop
 loop-less c = search needs
 
--- src/skips.rt:45:5
 loop-again : tie.Need-loop-again Inv-loop μ-loop
 loop-again c =
     let a = c .before .before .before .before .before .before .args in
@@ -83,7 +71,6 @@ loop-again c =
     let next = skips-next (a .file .now) (a .count) (a .firsts .now) (pre .1 .1) i (c .before .before .before .loop-test .taken) in
     (omega arith, sym (next false (test ∙ c .if1 .left)) ∙ inv .1)
 
--- src/skips.rt:38:1
 returns-2 : tie.Need-returns-2 Inv-loop μ-loop
 unfolding checkSkips recordsFrom
 returns-2 c =

@@ -1,14 +1,10 @@
 use borrow.Author.Tests.{eq-eqb, ne-eqb}
 use Rattle.plan.proofs.skips.is_skip.Statement.{statement}
 use Rattle.plan.proofs.skips.is_skip.Tie as tie
-use Rattle.plan.proofs.skips.is_skip.Reads as reads
-use Rattle.plan.proofs.skips.is_skip.Lts as lts
 
--- src/skips.rt:19:9
 returns : tie.Need-returns
 returns c = simp (eq-eqb _ _ (c .if1 .taken))
 
--- src/skips.rt:15:1
 returns-2 : tie.Need-returns-2
 returns-2 c = simp (ne-eqb _ _ (c .if1 .left))
 

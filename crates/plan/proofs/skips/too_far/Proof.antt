@@ -5,47 +5,34 @@ use mathlib.Core.Path.{_∙_, sym}
 use native.Mathlib.Omega.{arith}
 use Rattle.plan.proofs.skips.too_far.Statement.{statement}
 use Rattle.plan.proofs.skips.too_far.Tie as tie
-use Rattle.plan.proofs.skips.too_far.Reads as reads
-use Rattle.plan.proofs.skips.too_far.Lts as lts
-use Rattle.plan.proofs.skips.is_skip.Reads as is-skip-reads
 
--- src/skips.rt:30:9
 is-skip-requires : tie.Need-is-skip-requires
 is-skip-requires c κs = search needs
 
--- src/skips.rt:31:9
 returns : tie.Need-returns
 returns c = simp (← c .before .is-skip .ensures, not-true (c .before .is-skip .result) (c .if1 .taken))
 
--- src/skips.rt:33:16
 cast-next : tie.Need-cast-next
 cast-next c = search needs
 
--- src/skips.rt:33:16
 add-next : tie.Need-add-next
 add-next c = search needs
 
--- src/skips.rt:34:5
 mul-result : tie.Need-mul-result
 mul-result c = search needs
 
--- src/skips.rt:34:5
 element-copy-out-result : tie.Need-element-copy-out-result
 element-copy-out-result c = let h : c .before .before .before .args .r .worker < 8 = c .before .before .before .pre .0 (sym (c .before .before .is-skip .ensures) ∙ not-false _ (c .before .if1 .left)) in omega arith
 
--- src/skips.rt:34:20
 add-result : tie.Need-add-result
 add-result c = search needs
 
--- src/skips.rt:34:28
 cast-result : tie.Need-cast-result
 cast-result c = search needs
 
--- src/skips.rt:34:20
 add-result-2 : tie.Need-add-result-2
 add-result-2 c = search needs
 
--- src/skips.rt:25:1
 returns-2 : tie.Need-returns-2
 returns-2 c = simp (← c .before .before .before .before .is-skip .ensures, not-false (c .before .before .before .before .is-skip .result) (c .before .before .before .if1 .left))
 

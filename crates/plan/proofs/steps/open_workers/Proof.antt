@@ -1,16 +1,14 @@
 use native.Mathlib.Omega.{arith}
 use borrow.Author.Needs.{needs}
-use Prim.Native.Nat.{ℕ, _+_, _-_, max, _<_, _≤_}
+use Prim.Native.Nat.{ℕ, _+_, _-_, max, _≤_}
 use mathlib.Core.List.{List}
-use mathlib.Core.Path.{_≡_, refl, _∙_}
+use mathlib.Core.Path.{refl, _∙_}
 use native.Mathlib.Decide.{ℕ-discrete}
-use lib.ListN.{length, getD, set, length-set}
+use lib.ListN.{set, length-set}
 use lib.Seq.{getD-set-same, getD-set-other}
 use Rattle.plan.specs.Stepping.{Opened}
 use Rattle.plan.proofs.steps.open_workers.Statement.{statement}
 use Rattle.plan.proofs.steps.open_workers.Tie as tie
-use Rattle.plan.proofs.steps.open_workers.Reads as reads
-use Rattle.plan.proofs.steps.open_workers.Lts as lts
 
 abbrev Inv-loop : tie.InvT-loop
 Inv-loop firsts₀ opened worker i k₀ firsts k =
@@ -31,31 +29,24 @@ more old opened k i new h o =
       below = λ j l. getD-set-other new k j i 0 (omega arith) ∙ o .below j l;
     }
 
--- src/steps.rt:118:5
 loop-holds : tie.Need-loop-holds Inv-loop μ-loop
 loop-holds c = (omega arith, omega arith, record { size = refl; inside = λ k l m n. absurd (omega arith); below = λ k l. refl })
 
--- src/steps.rt:119:9
 mul-firsts : tie.Need-mul-firsts Inv-loop μ-loop
 mul-firsts c = search needs
 
--- src/steps.rt:119:9
 element-write-firsts : tie.Need-element-write-firsts Inv-loop μ-loop
 element-write-firsts c = search needs
 
--- src/steps.rt:120:9
 add-k : tie.Need-add-k Inv-loop μ-loop
 add-k c = search needs
 
--- src/steps.rt:118:5
 loop-less : tie.Need-loop-less Inv-loop μ-loop
 loop-less c = search needs
 
--- src/steps.rt:118:5
 loop-again : tie.Need-loop-again Inv-loop μ-loop
 loop-again c = let inv = c .before .loop .inv in (omega arith, omega arith, more _ _ _ _ _ (inv .0) (inv .2))
 
--- src/steps.rt:113:1
 returns : tie.Need-returns Inv-loop μ-loop
 returns c = let inv = c .before .loop .inv in record { size = inv .2 .size; inside = λ k l m n. inv .2 .inside k l (omega arith) n; below = inv .2 .below }
 

@@ -12,11 +12,6 @@ use Rattle.plan.proofs.Readings.{length-before, unmarked-step, not-refu
 use Rattle.plan.proofs.Stepped.{Kept, kept-first, inside, later-step, worker-below, step-more, all-read, firsts-right}
 use Rattle.plan.proofs.steps.read_steps.Statement.{statement}
 use Rattle.plan.proofs.steps.read_steps.Tie as tie
-use Rattle.plan.proofs.steps.read_steps.Reads as reads
-use Rattle.plan.proofs.steps.read_steps.Lts as lts
-use Rattle.plan.proofs.decode.decode.Reads as decode-reads
-use Rattle.plan.proofs.steps.later_ruling.Reads as later-ruling-reads
-use Rattle.plan.proofs.steps.open_workers.Reads as open-workers-reads
 
 abbrev Inv-loop : tie.InvT-loop
 Inv-loop file count n sizes start firsts₀ opened₀ i₀ firsts opened i =
@@ -26,29 +21,23 @@ Inv-loop file count n sizes start firsts₀ opened₀ i₀ firsts opened i =
 abbrev μ-loop : tie.MeasureT-loop
 μ-loop file count n sizes start firsts₀ opened₀ i₀ firsts opened i = count - i
 
--- src/steps.rt:133:5
 loop-holds : tie.Need-loop-holds Inv-loop μ-loop
 loop-holds c =
     let so = c .before .pre .1 in
     (omega arith, so .most, omega arith, λ z. refl, kept-first (c .before .args .file .now) (c .before .args .count) (c .before .args .n) (c .before .args .sizes .now) (c .before .args .start) so, refl)
 
--- src/steps.rt:134:45
 mul-decode : tie.Need-mul-decode Inv-loop μ-loop
 mul-decode c = search needs
 
--- src/steps.rt:134:32
 decode-requires : tie.Need-decode-requires Inv-loop μ-loop
 decode-requires c κs = search needs
 
--- src/steps.rt:134:27
 enum-known-r : tie.Need-enum-known-r Inv-loop μ-loop
 enum-known-r c = search needs
 
--- src/steps.rt:136:43
 enum-told : tie.Need-enum-told Inv-loop μ-loop
 enum-told c = search needs
 
--- src/steps.rt:135:13
 returns : tie.Need-returns Inv-loop μ-loop
 returns c =
     let a = c .before .before .before .before .before .before .args in
@@ -66,18 +55,15 @@ returns c =
       sizesRight = λ q. not-refused _ _ q;
     }
 
--- src/steps.rt:140:13
 later-ruling-requires : tie.Need-later-ruling-requires Inv-loop μ-loop
 later-ruling-requires c κs =
     let so = c .before .before .before .before .before .before .before .before .pre .1 in
     let inv = c .before .before .before .before .before .before .loop .inv in
     (so .eight, λ w h. let l = inside _ _ _ _ _ (inv .4) (so .eight) w h in let m = length-before (c .before .before .before .before .before .before .before .before .args .file .now) (c .before .before .before .before .before .before .loop .i) in omega arith)
 
--- src/steps.rt:141:32
 enum-known-ruling : tie.Need-enum-known-ruling Inv-loop μ-loop
 enum-known-ruling c = search needs
 
--- src/steps.rt:142:13
 returns-2 : tie.Need-returns-2 Inv-loop μ-loop
 returns-2 c =
     let a = c .before .before .before .before .before .before .before .before .before .before .before .before .args in
@@ -103,15 +89,12 @@ returns-2 c =
 enum-told-2 : tie.Need-enum-told-2 Inv-loop μ-loop
 enum-told-2 c = search needs
 
--- src/steps.rt:148:35
 cast-open-workers : tie.Need-cast-open-workers Inv-loop μ-loop
 cast-open-workers c = let inv = c .before .before .before .before .before .before .before .before .before .before .loop .inv in omega arith
 
--- src/steps.rt:148:52
 cast-open-workers-2 : tie.Need-cast-open-workers-2 Inv-loop μ-loop
 cast-open-workers-2 c = search needs
 
--- src/steps.rt:148:9
 open-workers-requires : tie.Need-open-workers-requires Inv-loop μ-loop
 open-workers-requires c κs =
     let a = c .before .before .before .before .before .before .before .before .before .before .before .before .args in
@@ -129,7 +112,6 @@ open-workers-requires c κs =
     let n = so .eight in
     omega arith
 
--- src/steps.rt:149:18
 add-opened : tie.Need-add-opened Inv-loop μ-loop
 add-opened c =
     let a = c .before .before .before .before .before .before .before .before .before .before .before .before .before .args in
@@ -147,15 +129,12 @@ add-opened c =
     let n = so .eight in
     omega arith
 
--- src/steps.rt:150:9
 add-i : tie.Need-add-i Inv-loop μ-loop
 add-i c = search needs
 
--- src/steps.rt:133:5
 loop-less : tie.Need-loop-less Inv-loop μ-loop
 loop-less c = search needs
 
--- src/steps.rt:133:5
 loop-again : tie.Need-loop-again Inv-loop μ-loop
 loop-again c =
     let a = c .before .before .before .before .before .before .before .before .before .before .before .before .before .args in
@@ -180,15 +159,12 @@ loop-again c =
       sym (step ∙ ap (λ (x : protocol.Rule). protocol.ruled x i (verdictFrom file (a .count) (i + 1))) rule) ∙ inv .5,
     )
 
--- src/steps.rt:152:31
 cast-open-workers-3 : tie.Need-cast-open-workers-3 Inv-loop μ-loop
 cast-open-workers-3 c = let inv = c .before .before .loop .inv in omega arith
 
--- src/steps.rt:152:5
 open-workers-requires-2 : tie.Need-open-workers-requires-2 Inv-loop μ-loop
 open-workers-requires-2 c κs = search needs
 
--- src/steps.rt:125:1
 returns-3 : tie.Need-returns-3 Inv-loop μ-loop
 returns-3 c =
     let a = c .before .before .before .before .before .args in

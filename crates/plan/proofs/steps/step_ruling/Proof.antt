@@ -6,65 +6,46 @@ use mathlib.Core.Path.{_∙_, sym}
 use Rattle.plan.proofs.Limited.{unknown, within, barrier-inside}
 use Rattle.plan.proofs.steps.step_ruling.Statement.{statement}
 use Rattle.plan.proofs.steps.step_ruling.Tie as tie
-use Rattle.plan.proofs.steps.step_ruling.Reads as reads
-use Rattle.plan.proofs.steps.step_ruling.Lts as lts
-use Rattle.plan.proofs.steps.outside.Reads as outside-reads
-use Rattle.plan.proofs.steps.steps_read.Reads as steps-read-reads
-use Rattle.plan.proofs.table.limits_of.Reads as limits-of-reads
 
--- src/steps.rt:64:31
 limits-of-requires : tie.Need-limits-of-requires
 limits-of-requires c κs = search needs
 
--- src/steps.rt:64:24
 enum-known-row : tie.Need-enum-known-row
 enum-known-row c = search needs
 
--- src/steps.rt:65:32
 enum-told : tie.Need-enum-told
 enum-told c = search needs
 
--- src/steps.rt:65:9
 returns : tie.Need-returns
 returns c = simp (unknown _ (sym (c .before .before .limits-of .ensures) ∙ c .enum-told .given .1))
 
--- src/steps.rt:68:9
 returns-2 : tie.Need-returns-2
 returns-2 c = simp (within _ _ (sym (c .before .before .before .before .limits-of .ensures) ∙ c .before .before .row .given .1) .0, le-leb _ _ (c .if1 .taken))
 
--- src/steps.rt:70:8
 add-if2 : tie.Need-add-if2
 add-if2 c = search needs
 
--- src/steps.rt:71:9
 returns-3 : tie.Need-returns-3
 returns-3 c = simp (within _ _ (sym (c .before .before .before .before .before .limits-of .ensures) ∙ c .before .before .before .row .given .1) .0, lt-leb _ _ (c .before .if1 .left), lt-ltb _ _ (c .if2 .taken))
 
--- src/steps.rt:73:15
 steps-read-requires : tie.Need-steps-read-requires
 steps-read-requires c κs = (omega arith, c .before .before .before .before .before .before .pre .1 _)
 
--- src/steps.rt:74:9
 returns-4 : tie.Need-returns-4
 returns-4 c = simp (within _ _ (sym (c .before .before .before .before .before .before .before .limits-of .ensures) ∙ c .before .before .before .before .before .row .given .1) .0, lt-leb _ _ (c .before .before .before .if1 .left), le-ltb _ _ (c .before .before .if2 .left), ← c .before .steps-read .ensures, le-leb _ _ (c .if3 .taken))
 
--- src/steps.rt:76:8
 outside-requires : tie.Need-outside-requires
 outside-requires c κs = search needs
 
--- src/steps.rt:77:9
 returns-5 : tie.Need-returns-5
 returns-5 c = simp (within _ _ (sym (c .before .before .before .before .before .before .before .before .before .limits-of .ensures) ∙ c .before .before .before .before .before .before .before .row .given .1) .0, lt-leb _ _ (c .before .before .before .before .before .if1 .left), le-ltb _ _ (c .before .before .before .before .if2 .left), ← c .before .before .before .steps-read .ensures, lt-leb _ _ (c .before .before .if3 .left), within _ _ (sym (c .before .before .before .before .before .before .before .before .before .limits-of .ensures) ∙ c .before .before .before .before .before .before .before .row .given .1) .1, ← c .before .outside .ensures, c .if4 .taken)
 
--- src/steps.rt:80:9
 returns-6 : tie.Need-returns-6
 returns-6 c = simp (within _ _ (sym (c .before .before .before .before .before .before .before .before .before .before .limits-of .ensures) ∙ c .before .before .before .before .before .before .before .before .row .given .1) .0, lt-leb _ _ (c .before .before .before .before .before .before .if1 .left), le-ltb _ _ (c .before .before .before .before .before .if2 .left), ← c .before .before .before .before .steps-read .ensures, lt-leb _ _ (c .before .before .before .if3 .left), within _ _ (sym (c .before .before .before .before .before .before .before .before .before .before .limits-of .ensures) ∙ c .before .before .before .before .before .before .before .before .row .given .1) .1, ← c .before .before .outside .ensures, c .before .if4 .left, ne-eqb _ _ (c .if5 .taken))
 
--- src/steps.rt:82:14
 cast-at : tie.Need-cast-at
 cast-at c = search needs
 
--- src/steps.rt:83:8
 element-copy-out-if6 : tie.Need-element-copy-out-if6
 element-copy-out-if6 c =
     let e = sym (c .before .before .before .before .before .before .before .before .before .before .limits-of .ensures) ∙ c .before .before .before .before .before .before .before .before .row .given .1 in
@@ -73,11 +54,9 @@ element-copy-out-if6 c =
     = barrier-inside (r .op) (c .before .before .before .before .before .before .before .before .row .given .0 .0) (r .register) (r .number) (c .if5 .left) e (sym (c .before .before .outside .ensures) ∙ c .before .if4 .left) in
     omega arith
 
--- src/steps.rt:84:9
 returns-7 : tie.Need-returns-7
 returns-7 c = simp (within _ _ (sym (c .before .before .before .before .before .before .before .before .before .before .before .before .limits-of .ensures) ∙ c .before .before .before .before .before .before .before .before .before .before .row .given .1) .0, lt-leb _ _ (c .before .before .before .before .before .before .before .before .if1 .left), le-ltb _ _ (c .before .before .before .before .before .before .before .if2 .left), ← c .before .before .before .before .before .before .steps-read .ensures, lt-leb _ _ (c .before .before .before .before .before .if3 .left), within _ _ (sym (c .before .before .before .before .before .before .before .before .before .before .before .before .limits-of .ensures) ∙ c .before .before .before .before .before .before .before .before .before .before .row .given .1) .1, ← c .before .before .before .before .outside .ensures, c .before .before .before .if4 .left, eq-eqb _ _ (c .before .before .if5 .left), eq-eqb _ _ (c .if6 .taken))
 
--- src/steps.rt:49:1
 returns-8 : tie.Need-returns-8
 returns-8 c = simp (within _ _ (sym (c .before .before .before .before .before .before .before .before .before .before .before .before .limits-of .ensures) ∙ c .before .before .before .before .before .before .before .before .before .before .row .given .1) .0, lt-leb _ _ (c .before .before .before .before .before .before .before .before .if1 .left), le-ltb _ _ (c .before .before .before .before .before .before .before .if2 .left), ← c .before .before .before .before .before .before .steps-read .ensures, lt-leb _ _ (c .before .before .before .before .before .if3 .left), within _ _ (sym (c .before .before .before .before .before .before .before .before .before .before .before .before .limits-of .ensures) ∙ c .before .before .before .before .before .before .before .before .before .before .row .given .1) .1, ← c .before .before .before .before .outside .ensures, c .before .before .before .if4 .left, eq-eqb _ _ (c .before .before .if5 .left), ne-eqb _ _ (c .if6 .left))
 

@@ -1,7 +1,6 @@
 -- `plan::steps::steps_read` meets its contract.
 use borrow.Author.Needs.{needs}
 use borrow.Author.Tests.{lt-ltb, le-ltb}
-use native.Mathlib.Omega.{arith}
 use Rattle.plan.proofs.steps.steps_read.Statement.{statement}
 use Rattle.plan.proofs.steps.steps_read.Tie as tie
 
