@@ -13,7 +13,7 @@ use borrow.Author.Tests.{leb-false}
 use Rattle.protocol.specs.Format.{Plan, upTo, planOf}
 use Rattle.protocol.specs.Rounds.{State, member}
 use Rattle.protocol.specs.Turns.{workersOf, can, move, turn, play}
-use Rattle.protocol.specs.Calls.{strays, playedFrom}
+use Rattle.protocol.specs.Calls.{namesNobody, playedFrom}
 use Rattle.protocol.proofs.Accepted.{sound-file}
 use Rattle.protocol.proofs.Bounds.{play-inv}
 use Rattle.protocol.proofs.Counting.{member-some, occurs-above}
@@ -56,18 +56,18 @@ after-pass plan memory turns i h e =
     after-one plan memory turns i h
     ∙ ap (λ (b : Bool). cond b (move plan (after plan memory turns i) (getD turns i 0)) (after plan memory turns i)) e
 
--- no turn strays: each names a worker below n
-pub turn-below : (n : ℕ) (turns : List ℕ) (i : ℕ) → strays n turns ≡ false → i < length turns → getD turns i 0 < n
-unfolding strays
+-- no turn namesNobody: each names a worker below n
+pub turn-below : (n : ℕ) (turns : List ℕ) (i : ℕ) → namesNobody n turns ≡ false → i < length turns → getD turns i 0 < n
+unfolding namesNobody
 turn-below n [] i e h = absurd (omega arith)
 turn-below n (w ∷ ws) zero e h = leb-false n w (left (leb n w) e)
   where
-    left : (b : Bool) → (b || strays n ws) ≡ false → b ≡ false
+    left : (b : Bool) → (b || namesNobody n ws) ≡ false → b ≡ false
     left true q = q
     left false q = refl
 turn-below n (w ∷ ws) (suc i) e h = turn-below n ws i (right (leb n w) e) (omega arith)
   where
-    right : (b : Bool) → (b || strays n ws) ≡ false → strays n ws ≡ false
+    right : (b : Bool) → (b || namesNobody n ws) ≡ false → namesNobody n ws ≡ false
     right true q = absurd (let z : _≡_ {A = ℕ} 0 1 = cc in omega arith)
     right false q = q
 

@@ -9,7 +9,7 @@ use Rattle.protocol.specs.Refusals.{check, accepted}
 use Rattle.protocol.specs.Steps.{stepAt}
 use Rattle.protocol.specs.Rounds.{State}
 use Rattle.protocol.specs.Turns.{workersOf, can, move}
-use Rattle.protocol.specs.Calls.{strays, playedFrom}
+use Rattle.protocol.specs.Calls.{namesNobody, playedFrom}
 use Rattle.protocol.proofs.Sound.{Sound}
 use Rattle.protocol.proofs.Invariant.{Inv}
 use Rattle.plan.specs.declared.decode.Record.{Record}
@@ -87,7 +87,7 @@ pub record Opened (n : ℕ) (mark : List Bool) (t : Tally) (mark′ : List Bool)
 pub record Playing (file : List ℕ) (n : ℕ) (sizes firsts turns memory log work : List ℕ) : Type 0 where
   pub laid : Laid file sizes firsts
   pub workers : n ≡ workersOf (planOf file)
-  pub known : strays n turns ≡ false
+  pub known : namesNobody n turns ≡ false
   pub bytes : Sizes memory work
   pub room : length log ≡ 8256
 

@@ -50,9 +50,9 @@ misfit b =
     || not (eqb (length (b .work)) workSize)
 
 -- "13, a turn naming a worker not below n"
-unfoldable pub strays : ℕ → List ℕ → Bool
-strays n [] = false
-strays n (w ∷ ws) = leb n w || strays n ws
+unfoldable pub namesNobody : ℕ → List ℕ → Bool
+namesNobody n [] = false
+namesNobody n (w ∷ ws) = leb n w || namesNobody n ws
 
 abbrev pub both : Verdict → Verdict → Verdict
 both accepted next = next
@@ -64,7 +64,7 @@ runVerdict file turns b =
     ruled (refuseIf (misfit b) badBuffer holds) 0
     (ruled (refuseIf (ltb turnLimit (length turns)) tooManyTurns holds) 0
     (both (check file)
-    (ruled (refuseIf (strays (workersOf (planOf file)) turns) badTurn holds) 0 accepted)))
+    (ruled (refuseIf (namesNobody (workersOf (planOf file)) turns) badTurn holds) 0 accepted)))
 
 -- "After an accepted run memory is the shared memory, the log's rest is zero, work is all zero."
 unfoldable pub lentLog : State → List ℕ

@@ -11,7 +11,7 @@ use lib.Seq.{drop-cons}
 use Rattle.protocol.specs.Format.{planOf, records}
 use Rattle.protocol.specs.Refusals.{Refusal, badLength, badMark, badPlan, badBarrier, badWorker, badOp, badOperand, tooManySteps, noSize, skipTooFar, badBuffer, tooManyTurns, badTurn, numberOf, Verdict, accepted, refused, codeOf, check}
 use Rattle.protocol.specs.Turns.{workersOf}
-use Rattle.protocol.specs.Calls.{both, strays, turnLimit}
+use Rattle.protocol.specs.Calls.{both, namesNobody, turnLimit}
 use Rattle.protocol.proofs.Accepted.{accepted-file, workers-of}
 use Rattle.plan.specs.Answer.{verdictOf}
 use Rattle.plan.specs.Checking.{LaidOut, CheckedAs}
@@ -28,21 +28,21 @@ behind true b c = refl
 behind false b c = refl
 
 pub stray-step : (n i : ℕ) (turns : List ℕ) (bad : Bool) → i < length turns
-    → bad || strays n (drop i turns) ≡ (bad || leb n (getD turns i 0)) || strays n (drop (i + 1) turns)
-unfolding strays
+    → bad || namesNobody n (drop i turns) ≡ (bad || leb n (getD turns i 0)) || namesNobody n (drop (i + 1) turns)
+unfolding namesNobody
 stray-step n i turns bad h =
-    ap (λ (ts : List ℕ). bad || strays n ts) (drop-cons turns i 0 h)
-    ∙ (behind bad (leb n (getD turns i 0)) (strays n (drop (suc i) turns))
-    ∙ ap (λ (k : ℕ). (bad || leb n (getD turns i 0)) || strays n (drop k turns)) (sym (add-one i)))
+    ap (λ (ts : List ℕ). bad || namesNobody n ts) (drop-cons turns i 0 h)
+    ∙ (behind bad (leb n (getD turns i 0)) (namesNobody n (drop (suc i) turns))
+    ∙ ap (λ (k : ℕ). (bad || leb n (getD turns i 0)) || namesNobody n (drop k turns)) (sym (add-one i)))
 
 right-false : (b : Bool) → b || false ≡ b
 right-false true = refl
 right-false false = refl
 
-pub stray-end : (n i : ℕ) (turns : List ℕ) (bad : Bool) → length turns ≤ i → bad || strays n (drop i turns) ≡ bad
-unfolding strays
+pub stray-end : (n i : ℕ) (turns : List ℕ) (bad : Bool) → length turns ≤ i → bad || namesNobody n (drop i turns) ≡ bad
+unfolding namesNobody
 stray-end n i turns bad h =
-    ap (λ (ts : List ℕ). bad || strays n ts) (drop-of-length-le turns {i = i} h) ∙ right-false bad
+    ap (λ (ts : List ℕ). bad || namesNobody n ts) (drop-of-length-le turns {i = i} h) ∙ right-false bad
 
 -- the number 0 is no refusal's
 
@@ -71,16 +71,16 @@ first-refused (refused f i) next h = refl
 
 module _ (file turns : List ℕ) (l : Lengths) where
   abbrev pub decided : ℕ
-  decided = codeOf (verdictBy (misfitBy l) (ltb turnLimit (length turns)) (check file) (strays (workersOf (planOf file)) turns))
+  decided = codeOf (verdictBy (misfitBy l) (ltb turnLimit (length turns)) (check file) (namesNobody (workersOf (planOf file)) turns))
 
   -- the answer by what the tests gave
-  pub tests : (m t s : Bool) (v : Verdict) → misfitBy l ≡ m → ltb turnLimit (length turns) ≡ t → check file ≡ v → strays (workersOf (planOf file)) turns ≡ s
+  pub tests : (m t s : Bool) (v : Verdict) → misfitBy l ≡ m → ltb turnLimit (length turns) ≡ t → check file ≡ v → namesNobody (workersOf (planOf file)) turns ≡ s
       → codeOf (verdictBy m t v s) ≡ decided
   tests m t s v em et ev es =
       ap (λ (b : Bool). codeOf (verdictBy m t v b)) (sym es)
-      ∙ (ap (λ (u : Verdict). codeOf (verdictBy m t u (strays (workersOf (planOf file)) turns))) (sym ev)
-      ∙ (ap (λ (b : Bool). codeOf (verdictBy m b (check file) (strays (workersOf (planOf file)) turns))) (sym et)
-      ∙ ap (λ (b : Bool). codeOf (verdictBy b (ltb turnLimit (length turns)) (check file) (strays (workersOf (planOf file)) turns))) (sym em)))
+      ∙ (ap (λ (u : Verdict). codeOf (verdictBy m t u (namesNobody (workersOf (planOf file)) turns))) (sym ev)
+      ∙ (ap (λ (b : Bool). codeOf (verdictBy m b (check file) (namesNobody (workersOf (planOf file)) turns))) (sym et)
+      ∙ ap (λ (b : Bool). codeOf (verdictBy b (ltb turnLimit (length turns)) (check file) (namesNobody (workersOf (planOf file)) turns))) (sym em)))
 
   pub refuses : (a : Admitted) (r : ℕ) → a .code ≡ r → (r ≡ 0 → ⊥) → r ≡ decided → Admits file turns l a
   refuses a r e h d = record { code = e ∙ d; layout = λ z. absurd (h (sym e ∙ z)) }
@@ -93,5 +93,5 @@ pub plan-workers : (file : List ℕ) {l : Layout} → LaidOut file l → check f
 plan-workers file l ok = l .workers ∙ sym (workers-of (records file) (accepted-file file ok .records))
 
 pub stray-same : (file turns : List ℕ) {r : Checked} → CheckedAs file r → check file ≡ accepted
-    → strays (workersOf (planOf file)) turns ≡ strays (r .layout .workers) turns
-stray-same file turns c ok = ap (λ (n : ℕ). strays n turns) (sym (plan-workers file (c .layout (c .verdict ∙ ok)) ok))
+    → namesNobody (workersOf (planOf file)) turns ≡ namesNobody (r .layout .workers) turns
+stray-same file turns c ok = ap (λ (n : ℕ). namesNobody n turns) (sym (plan-workers file (c .layout (c .verdict ∙ ok)) ok))

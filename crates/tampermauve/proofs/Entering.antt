@@ -10,7 +10,7 @@ use lib.ListN.{length}
 use Rattle.protocol.specs.Format.{planOf}
 use Rattle.protocol.specs.Refusals.{accepted, check}
 use Rattle.protocol.specs.Turns.{workersOf}
-use Rattle.protocol.specs.Calls.{Buffers, misfit, strays}
+use Rattle.protocol.specs.Calls.{Buffers, misfit, namesNobody}
 use Rattle.engine.specs.Moving.{Playing}
 use Rattle.tampermauve.specs.Run.{lengthsOf, Admits}
 use Rattle.tampermauve.specs.declared.admit.Admitted.{Admitted}
@@ -50,7 +50,7 @@ module _ (file turns : List ℕ) (b : Buffers) (a : Admitted) (h : Admits file t
   pub none-refused : 0 ≡ decided file turns b
   none-refused = sym z ∙ h .code
 
-  tested : Passed (misfit b) (check file) (strays (workersOf (planOf file)) turns)
+  tested : Passed (misfit b) (check file) (namesNobody (workersOf (planOf file)) turns)
   tested = passed file turns b (sym none-refused)
 
   pub fitting : Fits b
@@ -67,7 +67,7 @@ module _ (file turns : List ℕ) (b : Buffers) (a : Admitted) (h : Admits file t
       record {
         laid = record { ok = ok; sizesRight = h .layout z .sizes; firstsRight = h .layout z .firsts };
         workers = workers-right;
-        known = ap (λ (n : ℕ). strays n turns) workers-right ∙ tested .known;
+        known = ap (λ (n : ℕ). namesNobody n turns) workers-right ∙ tested .known;
         bytes = record { memorySize = fitting .memory; workSize = fitting .work };
         room = fitting .log;
       }

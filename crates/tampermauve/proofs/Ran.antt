@@ -9,7 +9,7 @@ use lib.ListN.{length}
 use Rattle.protocol.specs.Format.{planOf}
 use Rattle.protocol.specs.Refusals.{Verdict, accepted, refused, codeOf, check}
 use Rattle.protocol.specs.Turns.{workersOf}
-use Rattle.protocol.specs.Calls.{Buffers, Outcome, buffersOf, misfit, strays, turnLimit, playedFrom, outcomeOf, runVerdict, run}
+use Rattle.protocol.specs.Calls.{Buffers, Outcome, buffersOf, misfit, namesNobody, turnLimit, playedFrom, outcomeOf, runVerdict, run}
 use Rattle.protocol.specs.Demands.{Demand3Bytes}
 use Rattle.protocol.proofs.Accepted.{sound-file}
 use Rattle.protocol.proofs.Bytes.{demand3-bytes}
@@ -31,10 +31,10 @@ tests-passed false false s (refused f i) e = absurd (omega (arith, e, some-numbe
 
 module _ (file turns : List ℕ) (b : Buffers) where
   abbrev pub decided : ℕ
-  decided = codeOf (verdictBy (misfit b) (ltb turnLimit (length turns)) (check file) (strays (workersOf (planOf file)) turns))
+  decided = codeOf (verdictBy (misfit b) (ltb turnLimit (length turns)) (check file) (namesNobody (workersOf (planOf file)) turns))
 
-  pub passed : decided ≡ 0 → Passed (misfit b) (check file) (strays (workersOf (planOf file)) turns)
-  passed = tests-passed (misfit b) (ltb turnLimit (length turns)) (strays (workersOf (planOf file)) turns) (check file)
+  pub passed : decided ≡ 0 → Passed (misfit b) (check file) (namesNobody (workersOf (planOf file)) turns)
+  passed = tests-passed (misfit b) (ltb turnLimit (length turns)) (namesNobody (workersOf (planOf file)) turns) (check file)
 
   returned-code : run file turns b .returned ≡ decided
   unfolding run runVerdict

@@ -36,8 +36,8 @@ fn misfit(l: Lengths) -> bool
 }
 
 // Whether a turn names no worker below n. All are looked at: a loop without an early end is several times as fast.
-fn strays(turns: &[u8], n: u8) -> bool
-    ensures { λ b. ⌜ b ≡ calls.strays n (now (turns .entry)) ⌝ }
+fn names_nobody(turns: &[u8], n: u8) -> bool
+    ensures { λ b. ⌜ b ≡ calls.namesNobody n (now (turns .entry)) ⌝ }
 {
     let mut bad = false;
     let mut i = 0;
@@ -78,7 +78,7 @@ pub fn admit(file: &[u8], turns: &[u8], lent: Lengths) -> Admitted
         return refused(number);
     }
     let layout = checked.layout;
-    if strays(turns, layout.workers) {
+    if names_nobody(turns, layout.workers) {
         return refused(13);
     }
     Admitted { code: 0, layout }

@@ -47,8 +47,8 @@ returns-3 c =
     (v ∙ (first-refused (check (a .file .now)) _ (λ z. c .before .if3 .taken (v ∙ z))
     ∙ tests (a .file .now) (a .turns .now) (a .lent) false false _ _ (sym (c .before .before .before .before .before .before .misfit .ensures) ∙ c .before .before .before .before .before .if1 .left) (le-ltb _ _ (c .before .before .before .before .if2 .left)) refl refl))
 
-strays-requires : tie.Need-strays-requires
-strays-requires c κs = search needs
+names-nobody-requires : tie.Need-names-nobody-requires
+names-nobody-requires c κs = search needs
 
 refused-requires-4 : tie.Need-refused-requires-4
 refused-requires-4 c κs = search needs
@@ -59,7 +59,7 @@ returns-4 c =
     let ok = good (a .file .now) (c .before .before .before .before .before .before .check .ensures) (c .before .before .before .before .before .code .ensures) (c .before .before .before .before .if3 .left) in
     refuses (a .file .now) (a .turns .now) (a .lent) _ 13 (c .refused4 .ensures) (λ z. omega arith)
     (tests (a .file .now) (a .turns .now) (a .lent) false false true accepted (sym (c .before .before .before .before .before .before .before .before .before .misfit .ensures) ∙ c .before .before .before .before .before .before .before .before .if1 .left) (le-ltb _ _ (c .before .before .before .before .before .before .before .if2 .left)) ok
-    (stray-same (a .file .now) (a .turns .now) (c .before .before .before .before .before .before .check .ensures) ok ∙ (sym (c .before .before .strays .ensures) ∙ c .before .if4 .taken)))
+    (stray-same (a .file .now) (a .turns .now) (c .before .before .before .before .before .before .check .ensures) ok ∙ (sym (c .before .before .names-nobody .ensures) ∙ c .before .if4 .taken)))
 
 returns-5 : tie.Need-returns-5
 returns-5 c =
@@ -69,7 +69,7 @@ returns-5 c =
     record {
       code =
           tests (a .file .now) (a .turns .now) (a .lent) false false false accepted (sym (c .before .before .before .before .before .before .before .before .misfit .ensures) ∙ c .before .before .before .before .before .before .before .if1 .left) (le-ltb _ _ (c .before .before .before .before .before .before .if2 .left)) ok
-          (stray-same (a .file .now) (a .turns .now) k ok ∙ (sym (c .before .strays .ensures) ∙ c .if4 .left));
+          (stray-same (a .file .now) (a .turns .now) k ok ∙ (sym (c .before .names-nobody .ensures) ∙ c .if4 .left));
       layout = λ z. k .layout (k .verdict ∙ ok);
     }
 
@@ -86,7 +86,7 @@ admit-spec =
     code-requires
     refused-requires-3
     returns-3
-    strays-requires
+    names-nobody-requires
     refused-requires-4
     returns-4
     returns-5)

@@ -4,13 +4,13 @@ use Prim.Native.Nat.{_-_, _≤_}
 use mathlib.Core.Bool.{_||_}
 use mathlib.Core.Path.{_≡_, refl, sym, _∙_}
 use lib.ListN.{length, drop}
-use Rattle.protocol.specs.Calls.{strays}
+use Rattle.protocol.specs.Calls.{namesNobody}
 use Rattle.tampermauve.proofs.Admitting.{stray-step, stray-end}
-use Rattle.tampermauve.proofs.admit.strays.Statement.{statement}
-use Rattle.tampermauve.proofs.admit.strays.Tie as tie
+use Rattle.tampermauve.proofs.admit.names_nobody.Statement.{statement}
+use Rattle.tampermauve.proofs.admit.names_nobody.Tie as tie
 
 abbrev Inv-loop : tie.InvT-loop
-Inv-loop turns n bad₀ i₀ bad i = (i ≤ length turns) × (bad || strays n (drop i turns) ≡ strays n turns)
+Inv-loop turns n bad₀ i₀ bad i = (i ≤ length turns) × (bad || namesNobody n (drop i turns) ≡ namesNobody n turns)
 
 abbrev μ-loop : tie.MeasureT-loop
 μ-loop turns n bad₀ i₀ bad i = length turns - i
@@ -37,7 +37,7 @@ returns c =
     let l = c .before .loop in
     sym (stray-end _ (l .i) _ (l .bad) (c .loop-test .left)) ∙ l .inv .1
 
-pub strays-spec : {M : Type 1} → statement M
-strays-spec =
+pub names-nobody-spec : {M : Type 1} → statement M
+names-nobody-spec =
     tie.close
     (tie.spec Inv-loop μ-loop loop-holds shared-slice-read-bad add-i loop-less loop-again returns)
