@@ -97,7 +97,7 @@ sized file r checked e =
 
 -- ---- the cycles, turn by turn
 
-length-up : (k i : ℕ) → length (countFrom k i) ≡ k
+pub length-up : (k i : ℕ) → length (countFrom k i) ≡ k
 unfolding countFrom
 length-up zero i = refl
 length-up (suc k) i = ap suc (length-up k (suc i))

@@ -1,7 +1,9 @@
 // What is printed.
 use libc::STDOUT_FILENO;
 use plan::decode::pair;
+ghost use mathlib.Core.Path.{_≡_};
 ghost use Prim.Native.Nat.{_+_, _≤_};
+ghost use lib.ListN.{getD};
 
 // A number, and the byte that stands behind it.
 fn print_number(n: u64, behind: u8) {
@@ -40,8 +42,10 @@ pub fn print_log(log: &[u8; 8256]) {
     }
 }
 
-// The turns suffice for every plan, so the report's end is 1, finished, or 2, stuck; it is never 0, going.
-pub fn print_end(report: &[u8; 16]) {
+// The end is 1, finished, or 2, stuck.
+pub fn print_end(report: &[u8; 16])
+    requires { ⌜ (getD (now report) 0 0 ≡ 0 → ⊥) ⌝ }
+{
     if report[0] == 1 {
         io::write_all(STDOUT_FILENO, b"finished ");
     } else {

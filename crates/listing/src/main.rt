@@ -1,33 +1,22 @@
 // Lists the run of the plan file on standard input, from zero memory: a line for each record of the log, then how the plan ended and
 // the moving turns. A file that is refused gives one line.
 mod lines;
+mod run;
 mod turns;
 
 use crate::lines::print_end;
 use crate::lines::print_log;
 use crate::lines::print_refusal;
-use crate::turns::write_turns;
+use crate::run::run_listed;
 use libc::STDIN_FILENO;
-use tampermauve::tampermauve_run;
 
 // What is longer than the longest plan file may be cut off here: it is too long still.
 const FILE_ROOM: usize = 7232;
 
 fn list(file: &[u8]) {
-    let mut turns = [0u8; 16512];
-    let count = write_turns(file, &mut turns);
-    let mut memory = [0u8; 2048];
     let mut log = [0u8; 8256];
     let mut report = [0u8; 16];
-    let mut work = [0u8; 32768];
-    let code = tampermauve_run(
-        file,
-        &turns[..count],
-        &mut memory,
-        &mut log,
-        &mut report,
-        &mut work,
-    );
+    let code = run_listed(file, &mut log, &mut report);
     if code != 0 {
         print_refusal(code);
         return;

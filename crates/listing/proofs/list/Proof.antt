@@ -1,38 +1,15 @@
 use borrow.Author.Needs.{needs}
-use native.Mathlib.Omega.{arith}
-use mathlib.Core.Path.{sym}
-use lib.Seq.{length-take-le}
 use Rattle.listing.proofs.list.Statement.{statement}
 use Rattle.listing.proofs.list.Tie as tie
 
-slice-aggregate-write-turns : tie.Need-slice-aggregate-write-turns
-slice-aggregate-write-turns c = search needs
+slice-aggregate-run-listed : tie.Need-slice-aggregate-run-listed
+slice-aggregate-run-listed c = search needs
 
-write-turns-requires : tie.Need-write-turns-requires
-write-turns-requires c κs = search needs
+slice-aggregate-run-listed-2 : tie.Need-slice-aggregate-run-listed-2
+slice-aggregate-run-listed-2 c = search needs
 
-array-share-prefix-turns : tie.Need-array-share-prefix-turns
-array-share-prefix-turns c = search needs
-
-slice-aggregate-tampermauve-run : tie.Need-slice-aggregate-tampermauve-run
-slice-aggregate-tampermauve-run c =
-    let t = c .before .before .write-turns .ensures in
-    sym (length-take-le _ _ (omega (arith, t .0, t .1 .0)))
-
-slice-aggregate-tampermauve-run-2 : tie.Need-slice-aggregate-tampermauve-run-2
-slice-aggregate-tampermauve-run-2 c = search needs
-
-slice-aggregate-tampermauve-run-3 : tie.Need-slice-aggregate-tampermauve-run-3
-slice-aggregate-tampermauve-run-3 c = search needs
-
-slice-aggregate-tampermauve-run-4 : tie.Need-slice-aggregate-tampermauve-run-4
-slice-aggregate-tampermauve-run-4 c = search needs
-
-slice-aggregate-tampermauve-run-5 : tie.Need-slice-aggregate-tampermauve-run-5
-slice-aggregate-tampermauve-run-5 c = search needs
-
-tampermauve-run-requires : tie.Need-tampermauve-run-requires
-tampermauve-run-requires c κs = search needs
+run-listed-requires : tie.Need-run-listed-requires
+run-listed-requires c κs = search needs
 
 print-refusal-requires : tie.Need-print-refusal-requires
 print-refusal-requires c κs = search needs
@@ -44,7 +21,7 @@ print-log-requires : tie.Need-print-log-requires
 print-log-requires c κs = search needs
 
 print-end-requires : tie.Need-print-end-requires
-print-end-requires c κs = search needs
+print-end-requires c κs = c .before .before .before .before .before .before .run-listed .ensures .ended (c .before .before .before .if1 .left)
 
 returns-2 : tie.Need-returns-2
 returns-2 c = search needs
@@ -53,15 +30,9 @@ pub list-spec : {M : Type 1} → statement M
 list-spec =
     tie.close
     (tie.spec
-    slice-aggregate-write-turns
-    write-turns-requires
-    array-share-prefix-turns
-    slice-aggregate-tampermauve-run
-    slice-aggregate-tampermauve-run-2
-    slice-aggregate-tampermauve-run-3
-    slice-aggregate-tampermauve-run-4
-    slice-aggregate-tampermauve-run-5
-    tampermauve-run-requires
+    slice-aggregate-run-listed
+    slice-aggregate-run-listed-2
+    run-listed-requires
     print-refusal-requires
     returns
     print-log-requires
