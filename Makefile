@@ -1,6 +1,7 @@
 # make         the library, the header check, the C test programs
 # make test    the gate, .ci/run: all proofs from nothing, then every test
 # make test-c  the C tests alone
+# make test-listings  the listings of the plans in plans/ alone
 # make clean   removes target/
 #
 # All that is built stands under target/. `rt ci` removes that folder too.
@@ -21,11 +22,11 @@ C_TESTS = check run
 C_PROGRAMS = $(C_TESTS:%=$(OUT)/%) $(C_TESTS:%=$(OUT)/%.sanitized)
 
 # Rattle programs, which `rt check` proves and links to target/bin/NAME
-RT_PROGRAMS =
+RT_PROGRAMS = listing
 
 PROVED = $(shell find crates -name '*.rt' -o -name '*.antt') crates.txt
 
-.PHONY: all lib header programs test test-c test-header test-readme clean $(C_TESTS:%=test-c-%)
+.PHONY: all lib header programs test test-c test-listings test-header test-readme clean $(C_TESTS:%=test-c-%)
 
 all: lib header programs
 
@@ -39,6 +40,9 @@ test:
 	.ci/run
 
 test-c: header $(C_TESTS:%=test-c-%) test-readme
+
+test-listings: target/bin/listing
+	tests/listings.sh $<
 
 clean:
 	rm -rf target

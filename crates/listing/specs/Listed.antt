@@ -1,0 +1,25 @@
+-- Document 01, case 1: the turns that the listing program feeds a plan, and what it lists.
+use Prim.Native.Nat.{ℕ, _+_, _*_}
+use mathlib.Core.Path.{_≡_}
+use mathlib.Core.List.{List}
+use lib.ListN.{getD, replicate}
+use Rattle.protocol.specs.Format.{Plan, planOf}
+use Rattle.protocol.specs.Turns.{workersOf}
+use Rattle.protocol.specs.RoundRun.{moveLimit, roundRun}
+use Rattle.protocol.specs.Report.{reportBytes}
+use Rattle.protocol.specs.Calls.{memorySize, lentLog}
+use Rattle.protocol.specs.Cases.{cycles}
+
+-- "2 × (steps + n) cycles 0 .. n−1"
+abbrev pub listedTurns : Plan → List ℕ
+listedTurns plan = cycles (workersOf plan) (moveLimit plan)
+
+-- how many turns these are
+abbrev pub turnCount : ℕ → ℕ → ℕ
+turnCount steps n = 2 * (steps + n) * n
+
+-- what an accepted plan leaves, from zero memory: log and report of the round-by-round run, which has ended
+pub record Listed (file : List ℕ) (r : ℕ) (log report : List ℕ) : Type 0 where
+  pub sameLog : r ≡ 0 → log ≡ lentLog (roundRun (planOf file) (replicate memorySize 0))
+  pub sameReport : r ≡ 0 → report ≡ reportBytes (roundRun (planOf file) (replicate memorySize 0))
+  pub ended : r ≡ 0 → getD report 0 0 ≡ 0 → ⊥

@@ -1,0 +1,69 @@
+#!/usr/bin/env bash
+# Runs a listing program on the plans of plans/ and on inputs at the limits, and compares what it prints. Usage: tests/listings.sh PROGRAM
+set -u
+program=$(realpath "$1") || exit 1
+cd "$(dirname "${BASH_SOURCE[0]}")/.." || exit 1
+plan_file=tests/plan_file.sh
+failed=0
+passed=0
+
+# Compares the listing of standard input with a file.
+listed() { # NAME EXPECTED
+    if "$program" | diff "$2" - >&2; then
+        passed=$((passed + 1))
+    else
+        echo "listings: $1 is not listed as expected" >&2
+        failed=1
+    fi
+}
+
+same() { # FILE FILE
+    cmp "$1" "$2" >&2 || failed=1
+}
+
+# As many workers, with all barriers and as many steps, as a file may have. The steps are all alike.
+longest() { # OP
+    echo 8 0 0 0
+    for barrier in {0..7}; do echo 0 1 "$barrier" 1; done
+    for worker in {0..7}; do
+        for _ in {1..128}; do echo "$worker" "$1" 0 0; done
+    done
+}
+
+# Every worker runs its 128 steps to the end in round 1: 128 moves, the arrival, the exit.
+sets_listing() {
+    for worker in {0..7}; do echo 1 "$worker" 38 0 255; done
+    echo finished 1040
+}
+
+# Each signal gives up the token, so that there are 129 rounds of an arrival and a step. They fill the log, and use up the limit on turns that move.
+signals_listing() {
+    for round in {1..128}; do
+        for worker in {0..7}; do echo "$round" "$worker" 35 0 255; done
+    done
+    for worker in {0..7}; do echo 129 "$worker" 38 0 255; done
+    echo finished 2064
+}
+
+for steps in plans/*.steps; do
+    plan=${steps%.steps}.plan
+    same <("$plan_file" <"$steps") "$plan"
+    listed "$plan" "${steps%.steps}.listing" <"$plan"
+done
+same plans/race.plan crates/listing/stdin
+same plans/race.listing crates/listing/stdout
+
+listed "the longest file, of sets" <(sets_listing) < <(longest 16 | "$plan_file")
+listed "the longest file, of signals" <(signals_listing) < <(longest 35 | "$plan_file")
+listed "a record more than the longest file" <(echo refused 1 0) < <({ longest 16; echo 7 16 0 0; } | "$plan_file")
+listed "a byte more than the longest file" <(echo refused 1 0) < <(longest 16 | "$plan_file"; printf M)
+listed "a byte less than a record" <(echo refused 1 0) < <(head -c 6 plans/race.plan)
+listed "empty input" <(echo refused 1 0) </dev/null
+for zeros in 7 7231 7238 100000; do
+    refusal='2 0'
+    [ "$zeros" -gt 7231 ] && refusal='1 0'
+    listed "$zeros zeros" <(echo "refused $refusal") < <(head -c "$zeros" /dev/zero)
+done
+
+[ "$failed" -eq 0 ] && echo "listings: $passed as expected"
+exit "$failed"
