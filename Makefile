@@ -1,6 +1,8 @@
 # make         the library, the header check, the C test programs
 # make test    the gate, .ci/run: all proofs from nothing, then every test
 # make test-c  the C tests alone
+# make test-apart  the simulator's tests, and the library held against it
+# make soak, make mutants, make fuzz, make bench  what takes longer; see the end of this file
 # make test-listings  the listings of the plans in plans/ alone
 # make clean   removes target/
 #
@@ -26,7 +28,8 @@ RT_PROGRAMS = listing
 
 PROVED = $(shell find crates -name '*.rt' -o -name '*.antt') crates.txt
 
-.PHONY: all lib header programs test test-c test-listings test-header test-readme clean $(C_TESTS:%=test-c-%)
+.PHONY: all lib header programs test test-c test-listings test-header test-readme clean $(C_TESTS:%=test-c-%) \
+    test-apart test-simulator test-differential test-hosts test-fuzz test-vectors soak mutants fuzz bench
 
 all: lib header programs
 
@@ -102,3 +105,47 @@ test-readme: $(OUT)/readme $(OUT)/readme.expected
 	$(OUT)/readme > $(OUT)/readme.printed
 	diff $(OUT)/readme.expected $(OUT)/readme.printed
 	@echo "readme: prints what README.md says"
+
+# ---- the simulator, and what is held against it: Rust with its standard library alone
+
+SEED = 1
+COUNT = 250000
+SECONDS = 600
+
+test-apart: test-simulator test-differential test-hosts test-fuzz test-vectors
+
+test-simulator:
+	cd simulator && cargo test --release --offline --quiet
+
+test-differential: $(LIB)
+	tests/differential.sh library --seed $(SEED) --count $(COUNT)
+
+test-hosts: $(LIB)
+	tests/hosts.sh
+
+test-fuzz: $(LIB)
+	tests/fuzz.sh replay
+
+test-vectors:
+	tests/vectors.sh check
+
+# for as long as SECONDS says, with a seed that SEED names
+soak: $(LIB)
+	tests/differential.sh library --seed $(SEED) --seconds $(SECONDS)
+
+# each fault of tests/differential/mutants must be caught
+mutants:
+	tests/mutants.sh
+
+# needs clang with libFuzzer
+fuzz: $(LIB)
+	tests/fuzz.sh run $(SECONDS)
+
+# the library beside the C twin, in one run
+build/bench: $(wildcard bench/*.c bench/*.h) $(LIB)
+	mkdir -p build
+	$(CC) -std=c99 -O3 -Wall -Wextra -Werror -pedantic -c bench/twin.c -o build/twin.o
+	$(CC) -std=c99 -O3 -Wall -Wextra -Werror -pedantic -Iinclude bench/bench.c bench/sets.c build/twin.o $(LIB) -lm -o $@
+
+bench: build/bench
+	build/bench --passes 25 --csv build/bench.csv --svg build/bench.svg
