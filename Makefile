@@ -29,7 +29,7 @@ RT_PROGRAMS = listing
 PROVED = $(shell find crates -name '*.rt' -o -name '*.antt') crates.txt
 
 .PHONY: all lib header programs test test-c test-listings test-header test-readme clean $(C_TESTS:%=test-c-%) \
-    test-apart test-simulator test-differential test-hosts test-fuzz test-vectors soak mutants fuzz bench
+    test-apart test-simulator test-differential test-hold test-hosts test-fuzz test-vectors soak mutants fuzz bench
 
 all: lib header programs
 
@@ -112,13 +112,18 @@ SEED = 1
 COUNT = 250000
 SECONDS = 600
 
-test-apart: test-simulator test-differential test-hosts test-fuzz test-vectors
+test-apart: test-simulator test-differential test-hold test-hosts test-fuzz test-vectors
 
 test-simulator:
 	cd simulator && cargo test --release --offline --quiet
 
 test-differential: $(LIB)
 	tests/differential.sh library --seed $(SEED) --count $(COUNT)
+
+# the listing program beside the simulator's, on random plans
+test-hold: target/bin/listing
+	cd simulator && cargo build --release --offline --quiet
+	simulator/target/release/hold target/bin/listing --count 1000
 
 test-hosts: $(LIB)
 	tests/hosts.sh
