@@ -4,9 +4,10 @@
 # make test-apart  the simulator's tests, and the library held against it
 # make soak, make mutants, make fuzz, make bench  what takes longer; see the end of this file
 # make test-listings  the listings of the plans in plans/ alone
-# make clean   removes target/
+# make clean   removes all that is built
 #
-# All that is built stands under target/. `rt ci` removes that folder too.
+# What is proved and the C tests stand under target/, which `rt ci` removes too; the measuring program under build/, and what cargo
+# builds under the target/ of its own folder.
 
 CC = gcc
 CXX = g++
@@ -48,7 +49,7 @@ test-listings: target/bin/listing
 	tests/listings.sh $<
 
 clean:
-	rm -rf target
+	rm -rf target build simulator/target tests/differential/target tests/fuzz/reference/target
 
 # ---- the library
 

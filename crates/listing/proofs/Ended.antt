@@ -9,12 +9,12 @@ use Rattle.protocol.specs.Refusals.{Verdict, accepted, refused, codeOf, check}
 use Rattle.protocol.specs.Turns.{workersOf}
 use Rattle.protocol.specs.RoundRun.{moveLimit, roundRun}
 use Rattle.protocol.specs.Calls.{Buffers, Outcome, buffersOf, memorySize, playedFrom, outcomeOf, runVerdict, run}
-use Rattle.protocol.specs.Cases.{cycles}
+use Rattle.protocol.specs.Listing.{cycles, listedTurns}
 use Rattle.protocol.specs.Demands.{Whole, Cycles, done, cycle}
 use Rattle.protocol.proofs.Counting.{occurs-within}
 use Rattle.tampermauve.specs.Run.{Ran}
 use Rattle.tampermauve.proofs.Ran.{passed}
-use Rattle.listing.specs.Listed.{listedTurns, Listed}
+use Rattle.listing.specs.Listed.{Listed}
 use Rattle.listing.proofs.Turning.{length-up}
 
 whole : (n : ℕ) → Whole n (upTo n)

@@ -11,14 +11,14 @@ use Rattle.protocol.specs.Format.{Record, Step, stepsIn, firstIn, workersIn, co
 use Rattle.protocol.specs.Refusals.{check, accepted}
 use Rattle.protocol.specs.Turns.{workersOf}
 use Rattle.protocol.specs.RoundRun.{total, stepCount}
-use Rattle.protocol.specs.Cases.{cycles}
+use Rattle.protocol.specs.Listing.{cycles, listedTurns}
 use Rattle.protocol.proofs.Prefix.{Together}
 use Rattle.protocol.proofs.Accepted.{Accepted, accepted-file, workers-of}
 use Rattle.plan.specs.Answer.{verdictOf}
 use Rattle.plan.specs.Checking.{CheckedAs}
 use Rattle.plan.specs.declared.check.Checked.{Checked}
 use Rattle.plan.specs.declared.check.Layout.{Layout}
-use Rattle.listing.specs.Listed.{listedTurns, turnCount}
+use Rattle.listing.specs.Listed.{turnCount}
 
 -- ---- how many turns
 

@@ -1,18 +1,12 @@
--- Document 01, case 1: the turns that the listing program feeds a plan, and what it lists.
+-- Document 01, case 1: how many turns the listing program feeds a plan, and what it lists.
 use Prim.Native.Nat.{ℕ, _+_, _*_}
 use mathlib.Core.Path.{_≡_}
 use mathlib.Core.List.{List}
 use lib.ListN.{getD, replicate}
-use Rattle.protocol.specs.Format.{Plan, planOf}
-use Rattle.protocol.specs.Turns.{workersOf}
-use Rattle.protocol.specs.RoundRun.{moveLimit, roundRun}
+use Rattle.protocol.specs.Format.{planOf}
+use Rattle.protocol.specs.RoundRun.{roundRun}
 use Rattle.protocol.specs.Report.{reportBytes}
 use Rattle.protocol.specs.Calls.{memorySize, lentLog}
-use Rattle.protocol.specs.Cases.{cycles}
-
--- "2 × (steps + n) cycles 0 .. n−1"
-abbrev pub listedTurns : Plan → List ℕ
-listedTurns plan = cycles (workersOf plan) (moveLimit plan)
 
 -- how many turns these are
 abbrev pub turnCount : ℕ → ℕ → ℕ

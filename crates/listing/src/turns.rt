@@ -6,7 +6,8 @@ ghost use Prim.Native.Nat.{ℕ, _*_, _+_, _%_, _≤_, _<_};
 ghost use lib.ListN.{length, getD, take};
 ghost use Rattle.protocol.specs.Format.{planOf};
 ghost use Rattle.protocol.specs.Refusals as protocol;
-ghost use Rattle.listing.specs.Listed.{listedTurns, turnCount};
+ghost use Rattle.protocol.specs.Listing.{listedTurns};
+ghost use Rattle.listing.specs.Listed.{turnCount};
 
 // How many turns there are. The most are those of 8 workers with 128 steps each.
 fn turn_count(steps: usize, n: usize) -> usize

@@ -18,4 +18,6 @@ pub mod Bounds
 pub mod ByRounds
 pub mod Demand3
 pub mod Bytes
+-- The paper's cases, a check on the definitions.
+pub mod Table
 pub mod Cases

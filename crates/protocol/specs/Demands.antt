@@ -6,7 +6,7 @@ use mathlib.Core.List.{List, [], _∷_, _++_}
 use lib.Dec.{eqb}
 use lib.ListN.{length, getD, replicate}
 use Rattle.protocol.specs.Format.{word, Plan}
-use Rattle.protocol.specs.Rounds.{Entry, State}
+use Rattle.protocol.specs.Rounds.{Entry}
 use Rattle.protocol.specs.Turns.{workersOf, start, movingTurns, ended}
 use Rattle.protocol.specs.RoundRun.{moveLimit, roundRun}
 use Rattle.protocol.specs.Report.{logBytes}

@@ -8,5 +8,5 @@ pub mod Turns
 pub mod RoundRun
 pub mod Report
 pub mod Calls
-pub mod Cases
+pub mod Listing
 pub mod Demands

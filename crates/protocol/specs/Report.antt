@@ -26,10 +26,7 @@ pub data End : Type 0 where
   underWay finished stuck : End
 
 abbrev pub hasLeft : Fate → Bool
-hasLeft going = false
-hasLeft exited = true
-hasLeft failed = true
-hasLeft (waiting q) = false
+hasLeft f = elim f [ going ↦ false | exited ↦ true | failed ↦ true | waiting q ↦ false ]
 
 unfoldable pub allLeft : List Worker → Bool
 allLeft [] = true
@@ -40,9 +37,7 @@ endOf s = cond (ended s) (cond (allLeft (s .workers)) finished stuck) underWay
 
 -- "end (0 going, 1 finished, 2 stuck)"
 abbrev pub endNumber : End → ℕ
-endNumber underWay = 0
-endNumber finished = 1
-endNumber stuck = 2
+endNumber e = elim e [ underWay ↦ 0 | finished ↦ 1 | stuck ↦ 2 ]
 
 -- "eight fates: 0 going, 1 exited, 2 failed, 3 on a condition, 4 at a barrier, 255 no such worker"
 abbrev pub fateNumber : Fate → ℕ

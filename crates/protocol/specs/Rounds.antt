@@ -61,10 +61,7 @@ sameQueue (atBarrier c) (onCondition d) = false
 sameQueue (atBarrier c) (atBarrier d) = eqb c d
 
 abbrev pub waitsOn : Queue → Fate → Bool
-waitsOn q going = false
-waitsOn q exited = false
-waitsOn q failed = false
-waitsOn q (waiting p) = sameQueue q p
+waitsOn q f = elim f [ going ↦ false | exited ↦ false | failed ↦ false | waiting p ↦ sameQueue q p ]
 
 unfoldable pub keep : (ℕ → Bool) → List ℕ → List ℕ
 keep t [] = []
@@ -149,52 +146,31 @@ ruleOf plan queue held (barrier b) = barrierRule b (getD (plan .sizes) b 0) (que
 ruleOf plan queue held exit = exitRule held
 
 abbrev pub opOf : Sync → ℕ
-opOf (lock k) = 32
-opOf (unlock k) = 33
-opOf (wait c) = 34
-opOf (signal c) = 35
-opOf (broadcast c) = 36
-opOf (barrier b) = 37
-opOf exit = 38
+opOf y = elim y [ lock k ↦ 32 | unlock k ↦ 33 | wait c ↦ 34 | signal c ↦ 35 | broadcast c ↦ 36 | barrier b ↦ 37 | exit ↦ 38 ]
 
 abbrev pub operandOf : Sync → ℕ
-operandOf (lock k) = k
-operandOf (unlock k) = k
-operandOf (wait c) = c
-operandOf (signal c) = c
-operandOf (broadcast c) = c
-operandOf (barrier b) = b
-operandOf exit = 0
+operandOf y = elim y [ lock k ↦ k | unlock k ↦ k | wait c ↦ c | signal c ↦ c | broadcast c ↦ c | barrier b ↦ b | exit ↦ 0 ]
 
 -- The holder after its step. A commit drops its copies, and so does a failure.
 abbrev pub memoryAfter : Bytes → Copies → List ℕ → List ℕ
-memoryAfter kept copies memory = memory
-memoryAfter committed copies memory = commit copies memory
-memoryAfter lost copies memory = memory
+memoryAfter b copies memory = elim b [ kept ↦ memory | committed ↦ commit copies memory | lost ↦ memory ]
 
 abbrev pub copiesAfter : Bytes → Copies → Copies
-copiesAfter kept copies = copies
-copiesAfter committed copies = noCopies
-copiesAfter lost copies = noCopies
+copiesAfter b copies = elim b [ kept ↦ copies | committed ↦ noCopies | lost ↦ noCopies ]
 
 abbrev pub fateAfter : Goes → Fate
-fateAfter keeps = going
-fateAfter gives = going
-fateAfter (leaves f) = f
+fateAfter g = elim g [ keeps ↦ going | gives ↦ going | leaves f ↦ f ]
 
 -- Whoever comes back into a running round, woken from a condition, has arrived at its fence; from a barrier a worker comes back into
 -- the next round.
+abbrev pub isCondition : Queue → Bool
+isCondition q = elim q [ onCondition c ↦ true | atBarrier b ↦ false ]
+
 abbrev pub hasArrived : Fate → Bool
-hasArrived going = false
-hasArrived exited = false
-hasArrived failed = false
-hasArrived (waiting (onCondition c)) = true
-hasArrived (waiting (atBarrier b)) = false
+hasArrived f = elim f [ going ↦ false | exited ↦ false | failed ↦ false | waiting q ↦ isCondition q ]
 
 abbrev pub arrivedAfter : Goes → Bool
-arrivedAfter keeps = true
-arrivedAfter gives = false
-arrivedAfter (leaves f) = hasArrived f
+arrivedAfter g = elim g [ keeps ↦ true | gives ↦ false | leaves f ↦ hasArrived f ]
 
 abbrev pub afterRuling : Ruling → Worker → Worker
 afterRuling r v =
@@ -203,25 +179,16 @@ afterRuling r v =
 
 -- where the holder stands: first in this list, last in the next, or last among those who wait
 abbrev pub staysIn : Goes → ℕ → List ℕ
-staysIn keeps h = h ∷ []
-staysIn gives h = []
-staysIn (leaves f) h = []
+staysIn g h = elim g [ keeps ↦ h ∷ [] | gives ↦ [] | leaves f ↦ [] ]
 
 abbrev pub joinsNext : Goes → ℕ → List ℕ
-joinsNext keeps h = []
-joinsNext gives h = h ∷ []
-joinsNext (leaves f) h = []
+joinsNext g h = elim g [ keeps ↦ [] | gives ↦ h ∷ [] | leaves f ↦ [] ]
 
 abbrev pub isWaiting : Fate → Bool
-isWaiting going = false
-isWaiting exited = false
-isWaiting failed = false
-isWaiting (waiting q) = true
+isWaiting f = elim f [ going ↦ false | exited ↦ false | failed ↦ false | waiting q ↦ true ]
 
 abbrev pub joinsWaiting : Goes → ℕ → List ℕ
-joinsWaiting keeps h = []
-joinsWaiting gives h = []
-joinsWaiting (leaves f) h = cond (isWaiting f) (h ∷ []) []
+joinsWaiting g h = elim g [ keeps ↦ [] | gives ↦ [] | leaves f ↦ cond (isWaiting f) (h ∷ []) [] ]
 
 unfoldable pub member : ℕ → List ℕ → Bool
 member w [] = false

@@ -1,10 +1,10 @@
 -- Document 01, "Turns": who can move, what one move does, and a list of turns.
-use Prim.Native.Nat.{ℕ, zero, _+_}
+use Prim.Native.Nat.{ℕ, _+_}
 use mathlib.Core.Bool.{Bool, true, false, cond, not, _&&_, _||_}
-use mathlib.Core.List.{List, [], _∷_, map}
+use mathlib.Core.List.{List, [], _∷_}
 use lib.Dec.{eqb}
 use lib.ListN.{length, replicate}
-use Rattle.protocol.specs.Format.{Step, own, sync, Sync, Plan, upTo}
+use Rattle.protocol.specs.Format.{Step, own, sync, Plan, upTo}
 use Rattle.protocol.specs.Steps.{newWorker, stepAt}
 use Rattle.protocol.specs.Rounds.{State, workerAt, ownMove, arrival, syncMove, newRound, member}
 

@@ -1,10 +1,10 @@
 -- Document 01, "Plans to check against": cases 1 to 10 as one table, each with the bytes that it leaves, worked out by hand.
-use Prim.Native.Nat.{ℕ, zero, suc, _-_, _/_, _%_}
+use Prim.Native.Nat.{ℕ, _-_, _/_, _%_}
 use mathlib.Core.List.{List, [], _∷_, _++_}
 use lib.ListN.{length, replicate}
-use Rattle.protocol.specs.Format.{Plan, planOf, upTo}
-use Rattle.protocol.specs.Turns.{workersOf}
-use Rattle.protocol.specs.RoundRun.{moveLimit, roundRun}
+use Rattle.protocol.specs.Format.{planOf}
+use Rattle.protocol.specs.RoundRun.{roundRun}
+use Rattle.protocol.specs.Listing.{listedTurns}
 use Rattle.protocol.specs.Calls.{memorySize, logSize, reportSize, workSize, Buffers, Outcome, buffersOf, run}
 
 -- "Turns are the listing program's, save in case 10." That has no turns.
@@ -21,13 +21,8 @@ pub record Case : Type 0 where
   pub log : List ℕ
   pub report : List ℕ
 
--- the listing program's turns: "2 × (steps + n) cycles 0 .. n−1"
-unfoldable pub cycles : ℕ → ℕ → List ℕ
-cycles n zero = []
-cycles n (suc k) = upTo n ++ cycles n k
-
 unfoldable pub turnsOf : Case → List ℕ
-turnsOf c = elim (c .fed) [ listing ↦ cycles (workersOf (planOf (c .file))) (moveLimit (planOf (c .file))) | nothing ↦ [] ]
+turnsOf c = elim (c .fed) [ listing ↦ listedTurns (planOf (c .file)) | nothing ↦ [] ]
 
 -- bytes, then zeros
 unfoldable pub padded : ℕ → List ℕ → List ℕ
