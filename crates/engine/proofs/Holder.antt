@@ -1,7 +1,7 @@
 -- The holder's step: what its parts ask follows from the state that is shown, and the decision is the rule of the definitions.
 use Prim.Native.Nat.{ℕ, _+_, _*_, _≤_, _<_}
 use mathlib.Core.Bool.{Bool, cond}
-use mathlib.Core.Path.{_≡_, sym, ap, _∙_, subst}
+use mathlib.Core.Path.{_≡_, sym, ap, _∙_, subst, subst⁻¹}
 use mathlib.Core.List.{List, [], _∷_, _++_}
 use native.Mathlib.Omega.{arith}
 use lib.Dec.{eqb}
@@ -31,12 +31,16 @@ use Rattle.rules.proofs.Codes.{op-sync, operand-sync}
 use Rattle.moves.proofs.Owned.{sync-kind}
 use Rattle.engine.specs.declared.state.Tally.{Tally}
 use Rattle.engine.specs.declared.hold.Decision.{Decision}
-use Rattle.engine.specs.Shows.{Shows}
+use Rattle.engine.specs.Shows.{Logged, Shows}
 use Rattle.engine.specs.Held.{keyOf, Asking, Decided, Settled}
 use Rattle.engine.specs.Moving.{Holding}
 use Rattle.engine.proofs.Facts as facts
 use Rattle.engine.proofs.Facts.{Holder, ruleAt, applied, hold-core, list-known, next-known}
 use Rattle.engine.proofs.HoldShows.{StepDone, heldWorker, heldTally, hold-shows}
+
+-- the log's records, counted by the mark that the writer gives
+pub marked : (s : rounds.State) (log : List ℕ) (mark records : ℕ) → mark ≡ records → Logged s records log → Logged s mark log
+marked s log mark records e logged = subst⁻¹ (λ (k : ℕ). Logged s k log) e logged
 
 module _ (r : Record) (w : ℕ) (v : Worker) (t : Tally) (sizes on : List ℕ) (mark copied : List Bool) (memory log work : List ℕ)
     (h : Holding r w v t sizes on mark copied memory log work) where

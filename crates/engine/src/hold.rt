@@ -1,7 +1,6 @@
 // The holder's synchronising step: decided by its rule, then written.
 use crate::state::Moved;
 use crate::state::Tally;
-use journal::log::append_at;
 use journal::log::packed;
 use plan::decode::Record;
 use queue::Queue;
@@ -13,12 +12,13 @@ use rules::ruling::Ruling;
 use rules::ruling::rule;
 use token::turn_over;
 use worker::Worker;
+use writer::append_record;
 ghost use mathlib.Core.Path.{_≡_};
 ghost use Prim.Native.Nat.{_+_, _*_, _≤_, _<_};
-ghost use lib.ListN.{length};
 ghost use lib.Seq.{sets};
 ghost use Rattle.protocol.specs.Report.{entryBytes};
 ghost use Rattle.journal.specs.Bytes.{entryAs};
+ghost use Rattle.writer.specs.Appended.{Fits};
 ghost use Rattle.pages.specs.Copies.{Sizes};
 ghost use Rattle.engine.specs.Held.{keyOf, sizeBy, Asking, Decided, Settled};
 ghost use Rattle.engine.specs.Moving.{Holding, Held};
@@ -83,14 +83,21 @@ fn settle_bytes(bytes: Bytes, h: usize, memory: &mut [u8], work: &[u8], copied: 
     }
 }
 
-// The step's record in the log.
-fn record_step(r: Record, h: usize, outcome: u8, rounds: u64, records: usize, log: &mut [u8])
-    requires { ⌜ (h < 8) × (r .number ≤ 15) × (rounds < 65535) × (8 * records + 8 ≤ length (now log)) ⌝ }
-    ensures { λ _. ⌜ now (log .exit) ≡ sets (now (log .entry)) (8 * records) (entryBytes (entryAs (rounds + 1) h (r .op) (r .number) outcome)) ⌝ }
+// The step's record in the log, and the log's mark behind it.
+fn record_step(
+    r: Record,
+    h: usize,
+    outcome: u8,
+    rounds: u64,
+    records: usize,
+    log: &mut [u8],
+) -> usize
+    requires { ⌜ (h < 8) × (r .number ≤ 15) × (rounds < 65535) × Fits (now log) records ⌝ }
+    ensures { λ k. ⌜ (k ≡ records + 1) × (now (log .exit) ≡ sets (now (log .entry)) (8 * records) (entryBytes (entryAs (rounds + 1) h (r .op) (r .number) outcome))) ⌝ }
 {
     let round = (rounds + 1) as u16;
     let entry = packed(round, h as u8, r.op, r.number as u8, outcome);
-    append_at(log, records, entry);
+    append_record(log, records, entry)
 }
 
 // The holder w's step: decided, then written.
@@ -118,7 +125,7 @@ pub fn hold(
     let bytes = ruling.bytes;
     settle_fates(on, ruling, w, queued);
     settle_bytes(bytes, w, memory, work, copied);
-    record_step(r, w, ruling.outcome, t.rounds, t.records, log);
+    let records = record_step(r, w, ruling.outcome, t.rounds, t.records, log);
     let list = after.list;
     let next = after.next;
     let waiting = after.waiting;
@@ -141,7 +148,7 @@ pub fn hold(
             away: round.away,
             moves: t.moves + 1,
             rounds: round.rounds,
-            records: t.records + 1,
+            records,
         },
     }
 }

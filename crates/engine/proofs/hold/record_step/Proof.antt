@@ -21,15 +21,17 @@ cast-packed-2 c = search needs
 packed-requires : tie.Need-packed-requires
 packed-requires c κs = search needs
 
-append-at-requires : tie.Need-append-at-requires
-append-at-requires c κs = search needs
+append-record-requires : tie.Need-append-record-requires
+append-record-requires c κs = search needs
 
 same-length : tie.Need-same-length
 same-length c = search needs
 
 returns : tie.Need-returns
-returns c =
-    c .before .before .append-at .ensures ∙ ap (λ (bs : List ℕ). sets (c .before .before .before .before .before .before .before .args .log .now) (8 * c .before .before .before .before .before .before .before .args .records) bs) (c .before .before .before .before .packed .ensures)
+returns c = (
+  c .before .before .append-record .ensures .count,
+  c .before .before .append-record .ensures .bytes ∙ ap (λ (bs : List ℕ). sets (c .before .before .before .before .before .before .before .args .log .now) (8 * c .before .before .before .before .before .before .before .args .records) bs) (c .before .before .before .before .packed .ensures),
+)
 
 pub record-step-spec : {M : Type 1} → statement M
 record-step-spec =
@@ -40,6 +42,6 @@ record-step-spec =
     cast-packed
     cast-packed-2
     packed-requires
-    append-at-requires
+    append-record-requires
     same-length
     returns)

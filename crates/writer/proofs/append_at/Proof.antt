@@ -1,9 +1,10 @@
 use borrow.Author.Needs.{needs}
+use mathlib.Core.Path.{refl}
 use native.Mathlib.Omega.{arith}
 use native.Mathlib.Numerals.{towards-suc}
 use lib.ListN.{length-set}
-use Rattle.journal.proofs.log.append_at.Statement.{statement}
-use Rattle.journal.proofs.log.append_at.Tie as tie
+use Rattle.writer.proofs.append_at.Statement.{statement}
+use Rattle.writer.proofs.append_at.Tie as tie
 
 mul-at : tie.Need-mul-at
 mul-at c = search needs
@@ -77,11 +78,14 @@ add-log-7 c = search needs
 slice-write-log-8 : tie.Need-slice-write-log-8
 slice-write-log-8 c = simp length-set (omega arith)
 
+add-result : tie.Need-add-result
+add-result c = search needs
+
 same-length : tie.Need-same-length
 same-length c = simp length-set
 
 returns : tie.Need-returns
-returns c = simp (towards-suc, c .byte-of8 .ensures, c .before .byte-of7 .ensures, c .before .before .byte-of6 .ensures, c .before .before .before .byte-of5 .ensures, c .before .before .before .before .byte-of4 .ensures, c .before .before .before .before .before .byte-of3 .ensures, c .before .before .before .before .before .before .byte-of2 .ensures, c .before .before .before .before .before .before .before .byte-of .ensures)
+returns c = record { count = refl; bytes = simp (towards-suc, c .byte-of8 .ensures, c .before .byte-of7 .ensures, c .before .before .byte-of6 .ensures, c .before .before .before .byte-of5 .ensures, c .before .before .before .before .byte-of4 .ensures, c .before .before .before .before .before .byte-of3 .ensures, c .before .before .before .before .before .before .byte-of2 .ensures, c .before .before .before .before .before .before .before .byte-of .ensures) }
 
 pub append-at-spec : {M : Type 1} → statement M
 append-at-spec =
@@ -111,5 +115,6 @@ append-at-spec =
     byte-of-requires-8
     add-log-7
     slice-write-log-8
+    add-result
     same-length
     returns)
