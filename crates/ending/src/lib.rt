@@ -9,7 +9,7 @@ ghost use Rattle.queue.specs.List.{listOf};
 ghost use Rattle.ending.specs.Ending.{allGone, endBy, Ends, Left};
 
 // Whether each of the workers has exited or failed, by the codes 1 and 2.
-fn all_gone(fates: &[u16; 8], workers: u8) -> bool
+fn all_gone(fates: &[u64; 8], workers: u8) -> bool
     requires { ⌜ workers ≤ 8 ⌝ }
     ensures { λ b. ⌜ b ≡ allGone (now (fates .entry)) workers 0 ⌝ }
 {
@@ -29,7 +29,7 @@ fn all_gone(fates: &[u16; 8], workers: u8) -> bool
 }
 
 // 0 going, 1 finished, 2 stuck.
-fn end_of(list: Queue, fates: &[u16; 8], workers: u8) -> u8
+fn end_of(list: Queue, fates: &[u64; 8], workers: u8) -> u8
     requires { ⌜ workers ≤ 8 ⌝ }
     ensures { λ r. ⌜ r ≡ endBy (listOf list) (now (fates .entry)) workers ⌝ }
 {
@@ -53,7 +53,7 @@ pub struct Counts {
 pub fn close_buffers(
     list: Queue,
     c: Counts,
-    fates: &[u16; 8],
+    fates: &[u64; 8],
     workers: u8,
     log: &mut [u8],
     report: &mut [u8],

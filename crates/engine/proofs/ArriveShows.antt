@@ -146,7 +146,7 @@ module _ (plan : Plan) (small : workersOf plan ≤ 8) (s : State) (i : Inv plan 
   bytes =
       subst (λ (vs : List Worker). Bytes (workersOf plan) after vs copied work memory) (set-getD workers w idle)
       (bytes-moved (workersOf plan) w s after workers (getD workers w idle) copied copied work work memory memory (omega (arith, listedHere .known)) (shows .bytes)
-      (shows .bytes .shared) (shows .bytes .sizes) (shows .bytes .marks) (shows .bytes .registers w (listedHere .known))
+      (shows .bytes .shared) (shows .bytes .sizes) (shows .bytes .marks)
       (at-w ∙ ap (λ (v : steps.Worker). arrivedAs true v) (shows .bytes .worker w (listedHere .known))) others (λ u ne. refl))
 
   pub arrive-shows : Shows (workersOf plan) (move plan s w) (onceMore t (t .away - 1)) workers on (arrivedCan (s .list) (t .away) w mark) copied memory log work

@@ -165,9 +165,6 @@ module _ (plan : Plan) (sound : Sound plan) (s : State) (i : Inv plan s) (t : Ta
     pub held-small : getD workers w idle .held ≤ 128
     held-small = omega (arith, held-same, bounded plan s sound i .held w)
 
-    pub registers-four : length (getD workers w idle .registers) ≡ 4
-    registers-four = shows .bytes .registers w can-known
-
     pub list-some : 0 < length (listOf (t .lists .list))
     unfolding member
     list-some = rw (shows .lined .list .list) (some (s .list) (in-list s w (can-view s w able)))

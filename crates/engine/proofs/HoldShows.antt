@@ -19,7 +19,7 @@ use Rattle.protocol.specs.Report.{logBytes}
 use Rattle.protocol.proofs.Invariant.{Inv}
 use Rattle.protocol.proofs.Counting.{freed-length, freed-at}
 use Rattle.pages.specs.Copies.{copiesIn}
-use Rattle.worker.specs.Private.{viewed}
+use Rattle.worker.specs.Private.{registersOf, viewed}
 use Rattle.worker.specs.declared.Worker.{Worker}
 use Rattle.queue.specs.List.{Holds}
 use Rattle.rules.specs.declared.lists.Lists.{Lists}
@@ -69,7 +69,7 @@ closing-bytes : {n : ℕ} {s : State} {workers : List Worker} {copied : List Boo
     → Bytes n s workers copied work memory → Bytes n (closing ws s) workers copied work memory
 unfolding newRound
 closing-bytes [] b =
-    record { shared = b .shared; worker = b .worker; registers = b .registers; eight = b .eight; sizes = b .sizes; marks = b .marks }
+    record { shared = b .shared; worker = b .worker; eight = b .eight; sizes = b .sizes; marks = b .marks }
 closing-bytes (w ∷ ws) b = b
 
 closing-logged : {s : State} {k : ℕ} {log : List ℕ} (ws : List ℕ) → Logged s k log → Logged (closing ws s) k log
@@ -123,7 +123,7 @@ module _ (plan : Plan) (small : workersOf plan ≤ 8) (s : State) (i : Inv plan 
   mine =
       at-holder
       ∙ ap (λ (x : steps.Worker). afterRuling R x) view
-      ∙ ap (λ (cs : Copies). workerOf (v .place + 1) (v .registers) (R .held) (arrivedAfter (R .goes)) cs (fateAfter (R .goes))) (sym (done .mine))
+      ∙ ap (λ (cs : Copies). workerOf (v .place + 1) (registersOf v) (R .held) (arrivedAfter (R .goes)) cs (fateAfter (R .goes))) (sym (done .mine))
 
   others : (u : ℕ) → (u ≡ w → ⊥) → workerAt after u ≡ fateAs (workerAt after u .fate) (workerAt s u)
   others u ne = subst⁻¹ (λ (x : steps.Worker). x ≡ fateAs (x .fate) (workerAt s u)) (at-other u ne) (go (member u out))
@@ -142,7 +142,7 @@ module _ (plan : Plan) (small : workersOf plan ≤ 8) (s : State) (i : Inv plan 
   bytes : Bytes (workersOf plan) after (set workers w (heldWorker v R)) copied′ work memory′
   bytes =
       bytes-moved (workersOf plan) w s after workers (heldWorker v R) copied copied′ work work memory memory′ (omega (arith, known)) (shows .bytes) shared
-      (record { memorySize = done .memorySize; workSize = shows .bytes .sizes .workSize }) (done .markSize) (shows .bytes .registers w known) mine others (done .others)
+      (record { memorySize = done .memorySize; workSize = shows .bytes .sizes .workSize }) (done .markSize) mine others (done .others)
 
   fates : (u : ℕ) → u < workersOf plan → getD on′ u 0 ≡ fateCode (workerAt after u .fate)
   fates u l = done .fates u ∙ go (ℕ-discrete u w)

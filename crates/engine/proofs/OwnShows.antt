@@ -42,7 +42,6 @@ pub record OwnDone (o : Own) (w : ℕ) (memory : List ℕ) (v : Worker) (copied 
   pub others : (u : ℕ) → (u ≡ w → ⊥) → copiesIn copied′ work′ u ≡ copiesIn copied work u
   pub size : length work′ ≡ length work
   pub markSize : length copied′ ≡ 64
-  pub registers : length (v′ .registers) ≡ 4
 
 -- a statement on a worker of every number after one worker's record is replaced
 pub each-moved : (s : State) (w : ℕ) (x : steps.Worker) (P : ℕ → steps.Worker → Type 0) → w < length (s .workers) → P w x
@@ -90,7 +89,7 @@ module _ (plan : Plan) (small : workersOf plan ≤ 8) (s : State) (i : Inv plan 
         bytes =
             bytes-moved (workersOf plan) w s after workers v′ copied copied′ work work′ memory memory (omega arith) (shows .bytes) (shows .bytes .shared)
             (record { memorySize = shows .bytes .sizes .memorySize; workSize = done .size ∙ shows .bytes .sizes .workSize })
-            (done .markSize) (done .registers) (getD-set-same (s .workers) w x newWorker inside ∙ new) others (done .others);
+            (done .markSize) (getD-set-same (s .workers) w x newWorker inside ∙ new) others (done .others);
         lined = record {
           list = shows .lined .list;
           next = shows .lined .next;

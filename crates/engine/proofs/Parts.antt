@@ -44,22 +44,21 @@ retally {n} {s} {t} {workers} {on} {mark} {copied} {memory} {log} {work} t′ l 
     }
 
 -- a worker seen as a record of the code and the rest is so seen with its own arrival and fate
-pub as-viewed : {x : steps.Worker} {v : Worker} {a : Bool} {cs : Copies} {f : Fate} → x ≡ viewed v a cs f → x ≡ viewed v (x .arrived) cs (x .fate)
-as-viewed {x} {v} {a} {cs} {f} e = subst⁻¹ (λ (y : steps.Worker). y ≡ viewed v (y .arrived) cs (y .fate)) e refl
+pub as-viewed : {x : steps.Worker} (v : Worker) {a : Bool} {cs : Copies} {f : Fate} → x ≡ viewed v a cs f → x ≡ viewed v (x .arrived) cs (x .fate)
+as-viewed {x} v {a} {cs} {f} e = subst⁻¹ (λ (y : steps.Worker). y ≡ viewed v (y .arrived) cs (y .fate)) e refl
 
 -- One worker has a new record and new copies. Of the others only the fate may be new.
 module _ (n w : ℕ) (s s′ : State) (workers : List Worker) (v′ : Worker) (copied copied′ : List Bool) (work work′ memory memory′ : List ℕ) where
   pub bytes-moved : {a : Bool} {f : Fate} → w < 8 → Bytes n s workers copied work memory → s′ .memory ≡ memory′ → Sizes memory′ work′
-      → length copied′ ≡ 64 → length (v′ .registers) ≡ 4
+      → length copied′ ≡ 64
       → workerAt s′ w ≡ viewed v′ a (copiesIn copied′ work′ w) f
       → ((u : ℕ) → (u ≡ w → ⊥) → workerAt s′ u ≡ fateAs (workerAt s′ u .fate) (workerAt s u))
       → ((u : ℕ) → (u ≡ w → ⊥) → copiesIn copied′ work′ u ≡ copiesIn copied work u)
       → Bytes n s′ (set workers w v′) copied′ work′ memory′
-  bytes-moved small b shared sizes marks regs mine others copies =
+  bytes-moved small b shared sizes marks mine others copies =
       record {
         shared = shared;
         worker = λ u l. go u l (ℕ-discrete u w);
-        registers = λ u l. regs′ u l (ℕ-discrete u w);
         eight = length-set workers w v′ ∙ b .eight;
         sizes = sizes;
         marks = marks;
@@ -71,19 +70,15 @@ module _ (n w : ℕ) (s s′ : State) (workers : List Worker) (v′ : Worker) (c
       there : (u : ℕ) → (u ≡ w → ⊥) → getD (set workers w v′) u idle ≡ getD workers u idle
       there u ne = getD-set-other workers w u v′ idle ne
 
-      regs′ : (u : ℕ) → u < n → Dec (u ≡ w) → length (getD (set workers w v′) u idle .registers) ≡ 4
-      regs′ u l (yes e) = ap (λ (k : ℕ). length (getD (set workers w v′) k idle .registers)) e ∙ ap (λ (v : Worker). length (v .registers)) here ∙ regs
-      regs′ u l (no ne) = ap (λ (v : Worker). length (v .registers)) (there u ne) ∙ b .registers u l
-
       go : (u : ℕ) → u < n → Dec (u ≡ w)
           → workerAt s′ u ≡ viewed (getD (set workers w v′) u idle) (workerAt s′ u .arrived) (copiesIn copied′ work′ u) (workerAt s′ u .fate)
       go u l (yes e) =
           subst⁻¹ (λ (k : ℕ). workerAt s′ k ≡ viewed (getD (set workers w v′) k idle) (workerAt s′ k .arrived) (copiesIn copied′ work′ k) (workerAt s′ k .fate)) e
-          (subst⁻¹ (λ (v : Worker). workerAt s′ w ≡ viewed v (workerAt s′ w .arrived) (copiesIn copied′ work′ w) (workerAt s′ w .fate)) here (as-viewed mine))
+          (subst⁻¹ (λ (v : Worker). workerAt s′ w ≡ viewed v (workerAt s′ w .arrived) (copiesIn copied′ work′ w) (workerAt s′ w .fate)) here (as-viewed v′ mine))
       go u l (no ne) =
           subst⁻¹ (λ (v : Worker). workerAt s′ u ≡ viewed v (workerAt s′ u .arrived) (copiesIn copied′ work′ u) (workerAt s′ u .fate)) (there u ne)
           (subst⁻¹ (λ (cs : Copies). workerAt s′ u ≡ viewed (getD workers u idle) (workerAt s′ u .arrived) cs (workerAt s′ u .fate)) (copies u ne)
-          (as-viewed (others u ne ∙ ap (λ (x : steps.Worker). fateAs (workerAt s′ u .fate) x) (b .worker u l))))
+          (as-viewed (getD workers u idle) (others u ne ∙ ap (λ (x : steps.Worker). fateAs (workerAt s′ u .fate) x) (b .worker u l))))
 
 -- The holder's step is done: the round goes on, or the next begins.
 pub record Turned (n : ℕ) (s : State) (lists : Lists) (r : Round) (on : List ℕ) (mark : List Bool) : Type 0 where

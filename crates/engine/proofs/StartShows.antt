@@ -65,7 +65,7 @@ module _ (plan : Plan) (small : workersOf plan ≤ 8) (t : Tally) (v : Worker) (
       → workerAt (start plan memory) w ≡ viewed (getD (replicate 8 v) w idle) false (copiesIn (replicate 64 false) work w) going
   view w l =
       at-start w
-      ∙ sym (starts .fresh .view)
+      ∙ sym (starts .fresh)
       ∙ ap (λ (cs : Copies). viewed v false cs going) (sym (unmarked 64 work w))
       ∙ ap (λ (x : Worker). viewed x false (copiesIn (replicate 64 false) work w) going) (sym (at-code w l))
 
@@ -83,8 +83,7 @@ module _ (plan : Plan) (small : workersOf plan ≤ 8) (t : Tally) (v : Worker) (
       record {
         bytes = record {
           shared = refl;
-          worker = λ w l. as-viewed (view w l);
-          registers = λ w l. ap (λ (x : Worker). length (x .registers)) (at-code w l) ∙ starts .fresh .registers;
+          worker = λ w l. as-viewed (getD (replicate 8 v) w idle) (view w l);
           eight = refl;
           sizes = starts .sizes;
           marks = length-replicate 64 false;

@@ -28,7 +28,7 @@ use Rattle.engine.specs.Moving.{Shown, Holding, Held, Stepping}
 use Rattle.engine.specs.Shows.{idle, Shows}
 use Rattle.engine.specs.declared.state.Tally.{Tally}
 use Rattle.engine.specs.declared.state.Moved.{Moved}
-use Rattle.engine.proofs.Facts.{list-below, moves-fit, can-known, can-small, place-same, place-small, registers-four, list-some}
+use Rattle.engine.proofs.Facts.{list-below, moves-fit, can-known, can-small, place-same, place-small, list-some}
 use Rattle.engine.proofs.OwnShows.{onceMore, OwnDone, own-shows}
 use Rattle.engine.proofs.ArriveShows.{arrive-shows}
 
@@ -81,9 +81,16 @@ module _ {file sizes firsts : List ℕ} {w : ℕ} {v : Worker} {t : Tally} {on :
   end-right = h .laid .firstsRight (w + 1) (omega (arith, small)) ∙ ap (λ (k : ℕ). firstIn (records file) k) (add-one w)
 
   -- what `fetch` requires
+  place-here : v .place ≤ 128
+  place-here =
+      subst (λ (x : Worker). x .place ≤ 128) (h .here .worker)
+      (place-small (planOf file) (h .here .sound) s (h .here .inv) t workers on mark copied memory log work shows w (h .here .able))
+
   pub fetch-fits :
-      (7 * getD firsts (w + 1) 0 ≤ length file) × (getD firsts (w + 1) 0 ≤ 1033) × (getD firsts w 0 ≤ getD firsts (w + 1) 0)
-  fetch-fits = rw (first-right, end-right) (fetchable file (h .laid .ok) w)
+      (7 * getD firsts (w + 1) 0 ≤ length file) × (getD firsts (w + 1) 0 ≤ 1033) × (getD firsts w 0 ≤ getD firsts (w + 1) 0) × (v .place ≤ 128)
+  fetch-fits =
+      rw (first-right, end-right)
+      (fetchable file (h .laid .ok) w .0, fetchable file (h .laid .ok) w .1, fetchable file (h .laid .ok) w .2, place-here)
 
   -- what `arrive` requires of the list
   pub list-some-here : 0 < length (listOf (t .lists .list))
@@ -120,10 +127,7 @@ module _ {file sizes firsts : List ℕ} {w : ℕ} {v : Worker} {t : Tally} {on :
     pub own-fits : r .op < 32 → OwnReady v r
     own-fits early =
         own-ready v r range (own-kind range early .0) (own-kind range early .1)
-        (ap (λ (x : Worker). length (x .registers)) (sym (h .here .worker))
-        ∙ registers-four (planOf file) (h .here .sound) s (h .here .inv) t workers on mark copied memory log work shows w (h .here .able))
-        (subst (λ (x : Worker). x .place ≤ 128) (h .here .worker)
-        (place-small (planOf file) (h .here .sound) s (h .here .inv) t workers on mark copied memory log work shows w (h .here .able)))
+        place-here
 
     pub own-left : {v′ : Worker} {copied′ : List Bool} {work′ : List ℕ} → r .op < 32 → OwnMoved v r w memory copied work copied′ work′ v′
         → Shows (workersOf (planOf file)) (move (planOf file) s w) (onceMore t (t .away)) (set workers w v′) on mark copied′ memory log work′
@@ -131,7 +135,7 @@ module _ {file sizes firsts : List ℕ} {w : ℕ} {v : Worker} {t : Tally} {on :
         own-shows (planOf file) (h .here .sound .workers) s (h .here .inv) t workers on mark copied memory log work shows
         w (ownOf (r .op) (r .register) (r .number)) known (step-own-here early) v′ copied′ work′
         (subst⁻¹ (λ (x : Worker). OwnDone (ownOf (r .op) (r .register) (r .number)) w memory x copied work v′ copied′ work′) (h .here .worker)
-        record { worker = m .worker; others = m .others; size = m .size; markSize = m .markSize; registers = m .registers })
+        record { worker = m .worker; others = m .others; size = m .size; markSize = m .markSize })
 
     pub arrive-left : {away′ : ℕ} {mark′ : List Bool} → 32 ≤ r .op → 1 ≤ t .away → away′ ≡ t .away - 1 → mark′ ≡ arrivedCan (listOf (t .lists .list)) (t .away) w mark
         → Shows (workersOf (planOf file)) (move (planOf file) s w) (onceMore t away′) (set workers w v) on mark′ copied memory log work

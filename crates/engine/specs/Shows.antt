@@ -16,7 +16,7 @@ use Rattle.rules.specs.Codes.{fateCode}
 use Rattle.engine.specs.declared.state.Tally.{Tally}
 
 abbrev pub idle : Worker
-idle = record { place = 0; held = 0; registers = [] }
+idle = record { place = 0; held = 0; registers = 0 }
 
 -- how many of a list have not arrived at the fence
 unfoldable pub absent : State → List ℕ → ℕ
@@ -30,7 +30,6 @@ pub record Bytes (n : ℕ) (s : State) (workers : List Worker) (copied : List Bo
       (w : ℕ)
       → w < n
       → workerAt s w ≡ viewed (getD workers w idle) (workerAt s w .arrived) (copiesIn copied work w) (workerAt s w .fate)
-  pub registers : (w : ℕ) → w < n → length (getD workers w idle .registers) ≡ 4
   pub eight : length workers ≡ 8
   pub sizes : Sizes memory work
   pub marks : length copied ≡ 64

@@ -24,14 +24,15 @@ ghost use Rattle.engine.specs.Held.{keyOf, sizeBy, Asking, Decided, Sett
 ghost use Rattle.engine.specs.Moving.{Holding, Held};
 
 // The code of the fate of those who wait where the step says: at its condition or its barrier.
-fn key_of(r: Record) -> u16
+fn key_of(r: Record) -> u64
     requires { ⌜ r .number ≤ 15 ⌝ }
     ensures { λ k. ⌜ k ≡ keyOf r ⌝ }
 {
+    let number = r.number as u64;
     if r.op == 37 {
-        return 5 + 2 * r.number;
+        return 5 + 2 * number;
     }
-    4 + 2 * r.number
+    4 + 2 * number
 }
 
 // The size of the barrier that the step names.
@@ -54,7 +55,7 @@ pub struct Decision {
 }
 
 // Decides the holder h's step.
-fn decide(r: Record, h: u64, held: u16, sizes: &[u8; 8], lists: Lists, on: &[u16; 8]) -> Decision
+fn decide(r: Record, h: u64, held: u64, sizes: &[u8; 8], lists: Lists, on: &[u64; 8]) -> Decision
     requires { ⌜ Asking r h held lists ⌝ }
     ensures { λ d. ⌜ Decided r h held (now (sizes .entry)) lists (now (on .entry)) d ⌝ }
 {
@@ -107,7 +108,7 @@ pub fn hold(
     v: Worker,
     t: Tally,
     sizes: &[u8; 8],
-    on: &mut [u16; 8],
+    on: &mut [u64; 8],
     can: &mut [bool; 8],
     copied: &mut [bool; 64],
     memory: &mut [u8],
@@ -132,12 +133,11 @@ pub fn hold(
     let round = turn_over(list, next, w, t.rounds, can);
     let here = round.list;
     let later = round.next;
-    let registers = v.registers;
     Moved {
         worker: Worker {
             place: v.place + 1,
             held: ruling.held,
-            registers,
+            registers: v.registers,
         },
         tally: Tally {
             lists: Lists {

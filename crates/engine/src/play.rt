@@ -48,7 +48,7 @@ pub fn play(
 {
     let fresh = Worker::new();
     let mut workers = [fresh; 8];
-    let mut on = [0u16; 8];
+    let mut on = [0u64; 8];
     let mut can = [false; 8];
     let mut copied = [false; 64];
     let mut t = first_round(n as u64, &mut can);

@@ -20,5 +20,5 @@ pub struct Moved {
 // What a list of turns leaves beside the bytes: the tallies, and the fates by their codes.
 pub struct Played {
     pub tally: Tally,
-    pub fates: [u16; 8],
+    pub fates: [u64; 8],
 }

@@ -16,7 +16,7 @@ pub fn step(
     w: usize,
     v: Worker,
     t: Tally,
-    on: &mut [u16; 8],
+    on: &mut [u64; 8],
     can: &mut [bool; 8],
     copied: &mut [bool; 64],
     memory: &mut [u8],

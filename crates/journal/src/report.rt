@@ -25,7 +25,7 @@ fn high(n: u16) -> u8
 }
 
 // The byte of a worker's fate: its code, 3 on any condition, 4 at any barrier; 255 for no worker.
-fn fate_byte(code: u16, w: u8, workers: u8) -> u8
+fn fate_byte(code: u64, w: u8, workers: u8) -> u8
     ensures { λ r. ⌜ r ≡ shown workers w code ⌝ }
 {
     if workers <= w {
@@ -38,7 +38,7 @@ fn fate_byte(code: u16, w: u8, workers: u8) -> u8
 }
 
 // Writes the report: end, number of workers, moving turns, rounds, log records, and the eight fates.
-pub fn write_report(report: &mut [u8], t: Tallies, fates: &[u16; 8])
+pub fn write_report(report: &mut [u8], t: Tallies, fates: &[u64; 8])
     requires { ⌜ length (now report) ≡ 16 ⌝ }
     ensures { λ r. ⌜ now (report .exit) ≡ reportOf t (now (fates .entry)) ⌝ }
 {

@@ -34,12 +34,11 @@ step-of-own r least most =
     step-own (record { mark = 0; worker = r .worker; op = r .op; register = r .register; number = r .number }) least most
 
 -- a record in range and a worker within its steps
-pub own-ready : {sizes : List ℕ} (v : Worker) (r : Record) → InRange sizes r → 16 ≤ r .op → r .op ≤ 22 → length (v .registers) ≡ 4 → v .place ≤ 128 → OwnReady v r
-own-ready v r i least most registers place =
+pub own-ready : {sizes : List ℕ} (v : Worker) (r : Record) → InRange sizes r → 16 ≤ r .op → r .op ≤ 22 → v .place ≤ 128 → OwnReady v r
+own-ready v r i least most place =
     record {
       ready =
           record {
-            registers = registers;
             place = place;
             least = least;
             most = most;
@@ -113,7 +112,6 @@ own-moved v r w memory marks work marks′ work′ read m eight loads stepped ho
       others = holds .others;
       size = holds .size;
       markSize = holds .markSize ∙ eight;
-      registers = stepped .registers;
       held = sym (ap (λ (u : steps.Worker). u .held) (step false going)) ∙ own-held memory o (viewed v false copies going);
     }
   where

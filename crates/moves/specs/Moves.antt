@@ -60,5 +60,4 @@ pub record OwnMoved (v : Worker) (r : Record) (w : ℕ) (memory : List ℕ) (mar
   pub others : (u : ℕ) → (u ≡ w → ⊥) → copiesIn marks′ work′ u ≡ copiesIn marks work u
   pub size : length work′ ≡ length work
   pub markSize : length marks′ ≡ 64
-  pub registers : length (v′ .registers) ≡ 4
   pub held : v′ .held ≡ v .held

@@ -14,11 +14,11 @@ ghost use Rattle.pages.specs.Copies.{Sizes, copiesIn, WorkerHolds};
 ghost use Rattle.moves.specs.Moves.{fetchedAs, OwnReady, copiesLeft, OwnMoved};
 
 // The record of the step at a worker's place, whose steps are the records from `first` to before `end`.
-pub fn fetch(file: &[u8], first: usize, end: usize, place: u16) -> Record
-    requires { ⌜ (7 * end ≤ length (now file)) × (end ≤ 1033) × (first ≤ end) ⌝ }
+pub fn fetch(file: &[u8], first: usize, end: usize, place: usize) -> Record
+    requires { ⌜ (7 * end ≤ length (now file)) × (end ≤ 1033) × (first ≤ end) × (place ≤ 128) ⌝ }
     ensures { λ r. ⌜ r ≡ fetchedAs (now (file .entry)) first end place ⌝ }
 {
-    let at = first + place as usize;
+    let at = first + place;
     if at < end {
         return body(file, WIDTH * at);
     }

@@ -127,7 +127,7 @@ impl Queue {
     }
 
     // Those whose entry is the key, where that is wanted, or those whose entry is not.
-    fn matching(self, on: &[u16; 8], key: u16, wanted: bool) -> Queue
+    fn matching(self, on: &[u64; 8], key: u64, wanted: bool) -> Queue
         requires { ⌜ Good self × Below 8 (listOf self) ⌝ }
         ensures { λ r. ⌜ Holds r (keep (matches wanted (now (on .entry)) key) (listOf self)) ⌝ }
     {
@@ -143,14 +143,14 @@ impl Queue {
         kept
     }
 
-    pub fn select(self, on: &[u16; 8], key: u16) -> Queue
+    pub fn select(self, on: &[u64; 8], key: u64) -> Queue
         requires { ⌜ Good self × Below 8 (listOf self) ⌝ }
         ensures { λ r. ⌜ Holds r (keep (λ w. eqb (getD (now (on .entry)) w 0) key) (listOf self)) ⌝ }
     {
         self.matching(on, key, true)
     }
 
-    pub fn reject(self, on: &[u16; 8], key: u16) -> Queue
+    pub fn reject(self, on: &[u64; 8], key: u64) -> Queue
         requires { ⌜ Good self × Below 8 (listOf self) ⌝ }
         ensures { λ r. ⌜ Holds r (keep (λ w. not (eqb (getD (now (on .entry)) w 0) key)) (listOf self)) ⌝ }
     {

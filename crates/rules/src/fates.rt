@@ -14,7 +14,7 @@ ghost use Rattle.rules.specs.Rules.{wokenOf, joinedOf};
 ghost use Rattle.rules.specs.Fates.{frees, Freeing, Settled};
 
 // The code of the holder's fate.
-pub fn code_after(goes: Goes) -> u16
+pub fn code_after(goes: Goes) -> u64
     ensures { λ r. ⌜ r ≡ codeAfter goes ⌝ }
 {
     match goes {
@@ -36,7 +36,7 @@ pub fn arrived_after(goes: Goes) -> bool
 }
 
 // None of these workers waits any more.
-fn free(on: &mut [u16; 8], queued: Queue)
+fn free(on: &mut [u64; 8], queued: Queue)
     requires { ⌜ Good queued × Below 8 (listOf queued) ⌝ }
     ensures { λ r. ⌜ now (on .exit) ≡ frees (listOf queued) (now (on .entry)) ⌝ }
 {
@@ -48,7 +48,7 @@ fn free(on: &mut [u16; 8], queued: Queue)
     }
 }
 
-fn free_moved(on: &mut [u16; 8], wakes: bool, joins: bool, queued: Queue)
+fn free_moved(on: &mut [u64; 8], wakes: bool, joins: bool, queued: Queue)
     requires { ⌜ Freeing wakes joins queued ⌝ }
     ensures { λ r. ⌜ now (on .exit) ≡ frees (wokenOf wakes (listOf queued) ++ joinedOf joins (listOf queued)) (now (on .entry)) ⌝ }
 {
@@ -63,7 +63,7 @@ fn free_moved(on: &mut [u16; 8], wakes: bool, joins: bool, queued: Queue)
 }
 
 // Those whom the step moves wait no more, and the holder h has its new fate.
-pub fn settle_fates(on: &mut [u16; 8], r: Ruling, h: usize, queued: Queue)
+pub fn settle_fates(on: &mut [u64; 8], r: Ruling, h: usize, queued: Queue)
     requires { ⌜ (length (now on) ≡ 8) × (h < 8) × Freeing (r .wakes) (r .joins) queued ⌝ }
     ensures { λ u. ⌜ Settled (now (on .entry)) r h (listOf queued) (now (on .exit)) ⌝ }
 {

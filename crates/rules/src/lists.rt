@@ -67,7 +67,7 @@ pub fn next_after(next: Queue, joins: bool, queued: Queue, goes: Goes, h: u64) -
 }
 
 // Those who go on waiting: the queued are those whose fate's code is the key.
-fn stay(waiting: Queue, wakes: bool, joins: bool, queued: Queue, on: &[u16; 8], key: u16) -> Queue
+fn stay(waiting: Queue, wakes: bool, joins: bool, queued: Queue, on: &[u64; 8], key: u64) -> Queue
     requires { ⌜ Leaving waiting wakes joins queued (now on) key ⌝ }
     ensures { λ q. ⌜ Holds q (without (wokenOf wakes (listOf queued) ++ joinedOf joins (listOf queued)) (listOf waiting)) ⌝ }
 {
@@ -93,7 +93,7 @@ fn wait_last(waiting: Queue, goes: Goes, h: u64) -> Queue
 }
 
 // The three lists after the holder h's step.
-pub fn moved(lists: Lists, r: Ruling, h: u64, queued: Queue, on: &[u16; 8], key: u16) -> Lists
+pub fn moved(lists: Lists, r: Ruling, h: u64, queued: Queue, on: &[u64; 8], key: u64) -> Lists
     requires { ⌜ Room lists r h queued (now on) key ⌝ }
     ensures { λ after. ⌜ ListsMoved lists (rulingOf r (listOf queued)) h after ⌝ }
 {

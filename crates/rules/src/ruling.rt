@@ -19,20 +19,20 @@ pub enum Bytes {
 pub enum Goes {
     Keeps,
     Gives,
-    Leaves(u16),
+    Leaves(u64),
 }
 
 // wakes: the first of the queued workers is woken; joins: all of them join the next list.
 pub struct Ruling {
     pub bytes: Bytes,
-    pub held: u16,
+    pub held: u64,
     pub goes: Goes,
     pub wakes: bool,
     pub joins: bool,
     pub outcome: u8,
 }
 
-fn failed(held: u16) -> Ruling
+fn failed(held: u64) -> Ruling
     ensures { λ r. ⌜ ((qs : List ℕ) → Means held qs r (failure held)) ⌝ }
 {
     Ruling {
@@ -45,13 +45,13 @@ fn failed(held: u16) -> Ruling
     }
 }
 
-fn gives_at_zero(held: u16) -> Goes
+fn gives_at_zero(held: u64) -> Goes
     ensures { λ r. ⌜ AtZero held r ⌝ }
 {
     if held == 0 { Goes::Gives } else { Goes::Keeps }
 }
 
-fn commits_at_zero(held: u16) -> Bytes
+fn commits_at_zero(held: u64) -> Bytes
     ensures { λ r. ⌜ bytesOf r ≡ commitsAtZero held ⌝ }
 {
     if held == 0 {
@@ -61,7 +61,7 @@ fn commits_at_zero(held: u16) -> Bytes
     }
 }
 
-fn lock(held: u16) -> Ruling
+fn lock(held: u64) -> Ruling
     requires { ⌜ held ≤ 128 ⌝ }
     ensures { λ r. ⌜ ((qs : List ℕ) → Means held qs r (lockRule held)) ⌝ }
 {
@@ -76,7 +76,7 @@ fn lock(held: u16) -> Ruling
     }
 }
 
-fn unlock(held: u16) -> Ruling
+fn unlock(held: u64) -> Ruling
     requires { ⌜ held ≤ 128 ⌝ }
     ensures { λ r. ⌜ ((qs : List ℕ) → Means held qs r (unlockRule held)) ⌝ }
 {
@@ -96,7 +96,7 @@ fn unlock(held: u16) -> Ruling
     }
 }
 
-fn wait(condition: u16, count: u16) -> Ruling
+fn wait(condition: u64, count: u64) -> Ruling
     requires { ⌜ condition ≤ 15 ⌝ }
     ensures { λ r. ⌜ ((qs : List ℕ) → Means count qs r (waitRule condition count)) ⌝ }
 {
@@ -114,7 +114,7 @@ fn wait(condition: u16, count: u16) -> Ruling
 }
 
 // Signal and broadcast.
-fn signal(held: u16, queued: Queue) -> Ruling
+fn signal(held: u64, queued: Queue) -> Ruling
     requires { ⌜ Good queued × Below 8 (listOf queued) ⌝ }
     ensures { λ r. ⌜ Means held (listOf queued) r (signalRule (listOf queued) held) ⌝ }
 {
@@ -139,7 +139,7 @@ fn signal(held: u16, queued: Queue) -> Ruling
     }
 }
 
-fn barrier(b: u16, size: u8, queued: Queue, held: u16) -> Ruling
+fn barrier(b: u64, size: u8, queued: Queue, held: u64) -> Ruling
     requires { ⌜ (b ≤ 15) × Good queued ⌝ }
     ensures { λ r. ⌜ Means held (listOf queued) r (barrierRule b size (listOf queued) held) ⌝ }
 {
@@ -166,7 +166,7 @@ fn barrier(b: u16, size: u8, queued: Queue, held: u16) -> Ruling
     }
 }
 
-fn exit(held: u16) -> Ruling
+fn exit(held: u64) -> Ruling
     ensures { λ r. ⌜ ((qs : List ℕ) → Means held qs r (exitRule held)) ⌝ }
 {
     if held != 0 {
@@ -183,7 +183,7 @@ fn exit(held: u16) -> Ruling
 }
 
 // The rule of the step with this op and number. size is the barrier's; queued are those who wait where the step says.
-pub fn rule(op: u8, number: u16, held: u16, size: u8, queued: Queue) -> Ruling
+pub fn rule(op: u8, number: u16, held: u64, size: u8, queued: Queue) -> Ruling
     requires { ⌜ Asks op number held queued ⌝ }
     ensures { λ r. ⌜ Ruled op number held size (listOf queued) r ⌝ }
 {
@@ -194,10 +194,10 @@ pub fn rule(op: u8, number: u16, held: u16, size: u8, queued: Queue) -> Ruling
         return unlock(held);
     }
     if op == 34 {
-        return wait(number, held);
+        return wait(number as u64, held);
     }
     if op == 37 {
-        return barrier(number, size, queued, held);
+        return barrier(number as u64, size, queued, held);
     }
     if op == 38 {
         return exit(held);

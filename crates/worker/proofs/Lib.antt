@@ -1,1 +1,2 @@
+mod Registers
 pub mod OwnSteps

@@ -9,13 +9,13 @@ use mathlib.Core.Option.{none, some}
 use mathlib.Core.Path.{_≡_, refl, subst}
 use mathlib.Core.List.{List}
 use lib.Dec.{eqb}
-use lib.ListN.{getD, length-set}
+use lib.ListN.{getD}
 use Rattle.protocol.specs.Format.{Record, rowIn, rowOf, stepOf, own, sync, exit}
 use Rattle.protocol.specs.Pages.{Copies, loadWord}
 use Rattle.protocol.specs.Steps.{Fate, ownStep, setting, placeAs}
 use Rattle.worker.specs.declared.Worker.{Worker}
 use Rattle.worker.specs.declared.Outcome.the-variants.{Private, Stores}
-use Rattle.worker.specs.Private.{viewed, withRegister, ownOf, resultOf, skipOf, Ready, Stepped}
+use Rattle.worker.specs.Private.{registersOf, viewed, Replaced, ownOf, resultOf, skipOf, Ready, Stepped}
 
 -- the ops of own steps, to go by cases on
 data OwnOp : ℕ → Type 0 where
@@ -82,7 +82,7 @@ set-step :
     → (v : Worker) (register number loaded : ℕ) (memory : List ℕ) (arrived : Bool) (copies : Copies) (fate : Fate)
     → (op ≡ 17 → loaded ≡ loadWord memory copies number)
     → ownStep memory (ownOf op register number) (viewed v arrived copies fate)
-    ≡ setting register (resultOf (v .registers) op (getD (v .registers) register 0) number loaded) (viewed v arrived copies fate)
+    ≡ setting register (resultOf (registersOf v) op (getD (registersOf v) register 0) number loaded) (viewed v arrived copies fate)
 unfolding ownOf ownStep resultOf
 set-step op16 n h v register number loaded memory arrived copies fate read = refl
 set-step op17 n h v register number loaded memory arrived copies fate read = rw (read refl)
@@ -99,7 +99,7 @@ skip-step :
     → 21 ≤ op
     → (v : Worker) (register number : ℕ) (memory : List ℕ) (arrived : Bool) (copies : Copies) (fate : Fate)
     → ownStep memory (ownOf op register number) (viewed v arrived copies fate)
-    ≡ placeAs (v .place + 1 + skipOf op (getD (v .registers) register 0) number) (viewed v arrived copies fate)
+    ≡ placeAs (v .place + 1 + skipOf op (getD (registersOf v) register 0) number) (viewed v arrived copies fate)
 unfolding ownOf ownStep skipOf
 skip-step op16 h v register number memory arrived copies fate = absurd (omega arith)
 skip-step op17 h v register number memory arrived copies fate = absurd (omega arith)
@@ -121,30 +121,28 @@ abbrev at : ℕ → Worker → Worker
 at place v = record { place = place; held = v .held; registers = v .registers }
 
 -- what the three ways through a step give, from what the code has found
-module _ (v : Worker) (op register number loaded : ℕ) (ready : Ready v op register number) {value : ℕ} (holds : value ≡ getD (v .registers) register 0) where
+module _ (v : Worker) (op register number loaded : ℕ) (ready : Ready v op register number) {value : ℕ} (holds : value ≡ getD (registersOf v) register 0) where
   ops : OwnOp op
   ops = own-op op (ready .least) (ready .most)
 
   pub stores : op ≡ 18 → Stepped v op register number loaded (record { worker = at (v .place + 1) v; outcome = Stores value })
   unfolding ownOf ownStep
-  stores e = record { registers = ready .registers; step = λ memory arrived copies fate read. rw (e, holds) }
+  stores e = record { step = λ memory arrived copies fate read. rw (e, holds) }
 
   pub skips :
       21 ≤ op → {skip : ℕ} → skip ≡ skipOf op value number
       → Stepped v op register number loaded (record { worker = at (v .place + 1 + skip) v; outcome = Private })
   skips h e =
       record {
-        registers = ready .registers;
         step = λ memory arrived copies fate read. rw (e, holds) (skip-step ops h v register number memory arrived copies fate);
       }
 
   pub sets :
-      (op ≡ 18 → ⊥) → op < 21 → {result : ℕ} → result ≡ resultOf (v .registers) op value number loaded
-      → {left : Worker} → left ≡ withRegister (at (v .place + 1) v) register result
+      (op ≡ 18 → ⊥) → op < 21 → {result : ℕ} → result ≡ resultOf (registersOf v) op value number loaded
+      → {left : Worker} → Replaced (at (v .place + 1) v) register result left
       → Stepped v op register number loaded (record { worker = left; outcome = Private })
   sets n h e w =
-      rw (w, e, holds)
       record {
-        registers = simp length-set (ready .registers);
-        step = λ memory arrived copies fate read. set-step ops n h v register number loaded memory arrived copies fate read;
+        step = λ memory arrived copies fate read.
+            rw (w .place, w .held, w .registers, e, holds) (set-step ops n h v register number loaded memory arrived copies fate read);
       }

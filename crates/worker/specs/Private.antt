@@ -1,10 +1,10 @@
 -- What joins a worker's record in the code to the definitions of Steps, and what its own steps ensure.
-use Prim.Native.Nat.{ℕ, _+_, _-_, _%_, _≤_, _<_}
+use Prim.Native.Nat.{ℕ, _+_, _-_, _*_, _/_, _%_, _^_, _≤_, _<_}
 use mathlib.Core.Bool.{Bool, false, cond, not}
 use mathlib.Core.Path.{_≡_}
-use mathlib.Core.List.{List}
+use mathlib.Core.List.{List, [], _∷_}
 use lib.Dec.{eqb}
-use lib.ListN.{length, getD, set}
+use lib.ListN.{getD, set}
 use Rattle.protocol.specs.Format.{Own, assign, load, store, add, subtract, skipZero, skipNonzero}
 use Rattle.protocol.specs.Pages.{Copies, noCopies, loadWord, storeWord}
 use Rattle.protocol.specs.Steps as steps
@@ -14,16 +14,25 @@ use Rattle.worker.specs.declared.Outcome.{Outcome}
 use Rattle.worker.specs.declared.Outcome.the-variants.{Private, Stores}
 use Rattle.worker.specs.declared.Moved.{Moved}
 
+-- register r is the digit of 2 ^ (16 * r)
+abbrev pub digit : ℕ → ℕ → ℕ
+digit n r = n / 2 ^ (16 * r) % 65536
+
+abbrev pub registersOf : Worker → List ℕ
+registersOf v = digit (v .registers) 0 ∷ digit (v .registers) 1 ∷ digit (v .registers) 2 ∷ digit (v .registers) 3 ∷ []
+
 -- the worker of the definitions: what the record holds, and what the engine keeps beside it
 abbrev pub viewed : Worker → Bool → Copies → Fate → steps.Worker
-viewed v arrived copies fate = workerOf (v .place) (v .registers) (v .held) arrived copies fate
+viewed v arrived copies fate = workerOf (v .place) (registersOf v) (v .held) arrived copies fate
 
-pub record Fresh (v : Worker) : Type 0 where
-  pub registers : length (v .registers) ≡ 4
-  pub view : viewed v false noCopies going ≡ newWorker
+abbrev pub Fresh : Worker → Type 0
+Fresh v = viewed v false noCopies going ≡ newWorker
 
-abbrev pub withRegister : Worker → ℕ → ℕ → Worker
-withRegister v r value = record { place = v .place; held = v .held; registers = set (v .registers) r value }
+-- w is v with another value in register r
+pub record Replaced (v : Worker) (r value : ℕ) (w : Worker) : Type 0 where
+  pub place : w .place ≡ v .place
+  pub held : w .held ≡ v .held
+  pub registers : registersOf w ≡ set (registersOf v) r value
 
 -- an own step by its row of the table; where an op has no such row, it is an assignment
 unfoldable pub ownOf : ℕ → ℕ → ℕ → Own
@@ -53,7 +62,6 @@ copiesAfter (Stores value) memory copies address = storeWord memory copies addre
 
 -- what a step takes: an own step of an accepted plan, and the worker within its steps
 pub record Ready (v : Worker) (op register number : ℕ) : Type 0 where
-  pub registers : length (v .registers) ≡ 4
   pub place : v .place ≤ 128
   pub least : 16 ≤ op
   pub most : op ≤ 22
@@ -63,7 +71,6 @@ pub record Ready (v : Worker) (op register number : ℕ) : Type 0 where
 
 -- what a step gives: the definition's step, whatever the memory and the copies, where `loaded` is what a load would read
 pub record Stepped (v : Worker) (op register number loaded : ℕ) (m : Moved) : Type 0 where
-  pub registers : length (m .worker .registers) ≡ 4
   pub step :
       (memory : List ℕ) (arrived : Bool) (copies : Copies) (fate : Fate)
       → (op ≡ 17 → loaded ≡ loadWord memory copies number)

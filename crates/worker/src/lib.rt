@@ -1,13 +1,14 @@
 // A worker's private record and its own steps.
 ghost use Prim.Native.Nat.{_<_, _≤_};
 ghost use mathlib.Core.Path.{_≡_};
-ghost use lib.ListN.{length, getD};
-ghost use Rattle.worker.specs.Private.{Fresh, withRegister, resultOf, skipOf, Ready, Stepped};
+ghost use lib.ListN.{getD};
+ghost use Rattle.worker.specs.Private.{Fresh, registersOf, Replaced, resultOf, skipOf, Ready, Stepped};
 
+// The registers are one number's digits to base 65536, register 0 lowest.
 pub struct Worker {
-    pub place: u16,
-    pub held: u16,
-    pub registers: [u16; 4],
+    pub place: usize,
+    pub held: u64,
+    pub registers: u64,
 }
 
 // What a move leaves to its caller: nothing, or a number to store.
@@ -28,46 +29,32 @@ impl Worker {
         Worker {
             place: 0,
             held: 0,
-            registers: [0; 4],
+            registers: 0,
         }
     }
 
-    // Constant indices keep the record out of memory.
     pub fn register(self, r: u8) -> u16
-        requires { ⌜ (r < 4) × (length (self .registers) ≡ 4) ⌝ }
-        ensures { λ value. ⌜ value ≡ getD (self .registers) r 0 ⌝ }
+        requires { ⌜ r < 4 ⌝ }
+        ensures { λ value. ⌜ value ≡ getD (registersOf self) r 0 ⌝ }
     {
-        if r == 0 {
-            self.registers[0]
-        } else if r == 1 {
-            self.registers[1]
-        } else if r == 2 {
-            self.registers[2]
-        } else {
-            self.registers[3]
-        }
+        let shift = 16 * (r as u64);
+        ((self.registers >> shift) % 65536) as u16
     }
 
     pub fn with_register(mut self, r: u8, value: u16) -> Worker
-        requires { ⌜ (r < 4) × (length (self .registers) ≡ 4) ⌝ }
-        ensures { λ w. ⌜ w ≡ withRegister self r value ⌝ }
+        requires { ⌜ r < 4 ⌝ }
+        ensures { λ w. ⌜ Replaced self r value w ⌝ }
     {
-        if r == 0 {
-            self.registers[0] = value;
-        } else if r == 1 {
-            self.registers[1] = value;
-        } else if r == 2 {
-            self.registers[2] = value;
-        } else {
-            self.registers[3] = value;
-        }
+        let shift = 16 * (r as u64);
+        let old = (self.registers >> shift) % 65536;
+        self.registers = self.registers - (old << shift) + ((value as u64) << shift);
         self
     }
 
     // What a step that sets a register puts there.
     fn result(self, op: u8, value: u16, number: u16, loaded: u16) -> u16
-        requires { ⌜ (length (self .registers) ≡ 4) × (op ≤ 20) × (19 ≤ op → number < 4) ⌝ }
-        ensures { λ r. ⌜ r ≡ resultOf (self .registers) op value number loaded ⌝ }
+        requires { ⌜ (op ≤ 20) × (19 ≤ op → number < 4) ⌝ }
+        ensures { λ r. ⌜ r ≡ resultOf (registersOf self) op value number loaded ⌝ }
     {
         if op == 17 {
             return loaded;
@@ -113,11 +100,11 @@ impl Worker {
 }
 
 // How many steps a skip passes over.
-fn skipped(op: u8, value: u16, number: u16) -> u16
+fn skipped(op: u8, value: u16, number: u16) -> usize
     ensures { λ r. ⌜ r ≡ skipOf op value number ⌝ }
 {
     if (op == 21) == (value == 0) {
-        number
+        number as usize
     } else {
         0
     }

@@ -42,14 +42,14 @@ turn-over-requires c κs =
     let x = c .before .before .before .before .before .before .before .before .before .before .before .before .before .before .before .before .before .before .decide .ensures in
     (asking _ _ _ _ _ _ _ _ _ _ _ p .holder, rounds-fit _ _ _ _ _ _ _ _ _ _ _ p, list-below _ _ _ _ _ _ _ _ _ _ _ p _ x, x .moved .next .good, next-below _ _ _ _ _ _ _ _ _ _ _ p _ x)
 
-add-t36 : tie.Need-add-t36
-add-t36 c = let h = place-small _ _ _ _ _ _ _ _ _ _ _ (c .before .before .before .before .before .before .before .before .before .before .before .before .before .before .before .before .before .before .before .before .before .before .before .before .before .before .before .before .before .pre) in omega arith
+add-t35 : tie.Need-add-t35
+add-t35 c = let h = place-small _ _ _ _ _ _ _ _ _ _ _ (c .before .before .before .before .before .before .before .before .before .before .before .before .before .before .before .before .before .before .before .before .before .before .before .before .before .before .before .before .pre) in omega arith
 
-add-t26 : tie.Need-add-t26
-add-t26 c = let h = moves-fit _ _ _ _ _ _ _ _ _ _ _ (c .before .before .before .before .before .before .before .before .before .before .before .before .before .before .before .before .before .before .before .before .before .before .before .before .before .before .before .before .before .before .pre) in omega arith
+add-t25 : tie.Need-add-t25
+add-t25 c = let h = moves-fit _ _ _ _ _ _ _ _ _ _ _ (c .before .before .before .before .before .before .before .before .before .before .before .before .before .before .before .before .before .before .before .before .before .before .before .before .before .before .before .before .before .pre) in omega arith
 
 same-length : tie.Need-same-length
-same-length c = c .before .before .before .before .before .before .before .before .before .before .before .before .before .before .before .before .settle-bytes .ensures .size
+same-length c = c .before .before .before .before .before .before .before .before .before .before .before .before .before .before .before .settle-bytes .ensures .size
 
 same-length-2 : tie.Need-same-length-2
 same-length-2 c = search needs
@@ -57,8 +57,8 @@ same-length-2 c = search needs
 returns : tie.Need-returns
 returns c =
     λ h.
-    let k = c .before .before .before .before .before .before .before .before .before .before .before .before .record-step .ensures in
-    let z = shown _ _ _ _ _ _ _ _ _ _ _ h _ (c .before .before .before .before .before .before .before .before .before .before .before .before .before .before .before .before .before .before .before .before .before .before .before .before .decide .ensures) _ (c .before .before .before .before .before .before .before .before .before .before .before .before .before .before .before .before .before .before .before .settle-fates .ensures) _ _ (c .before .before .before .before .before .before .before .before .before .before .before .before .before .before .before .before .settle-bytes .ensures) _ (k .1) _ _ (c .before .before .before .before .before .turn-over .ensures) in
+    let k = c .before .before .before .before .before .before .before .before .before .before .before .record-step .ensures in
+    let z = shown _ _ _ _ _ _ _ _ _ _ _ h _ (c .before .before .before .before .before .before .before .before .before .before .before .before .before .before .before .before .before .before .before .before .before .before .before .decide .ensures) _ (c .before .before .before .before .before .before .before .before .before .before .before .before .before .before .before .before .before .before .settle-fates .ensures) _ _ (c .before .before .before .before .before .before .before .before .before .before .before .before .before .before .before .settle-bytes .ensures) _ (k .1) _ _ (c .before .before .before .before .turn-over .ensures) in
     record {
       bytes = z .bytes;
       lined = z .lined;
@@ -76,8 +76,8 @@ hold-spec =
     settle-bytes-requires
     record-step-requires
     turn-over-requires
-    add-t36
-    add-t26
+    add-t35
+    add-t25
     same-length
     same-length-2
     returns)

@@ -6,7 +6,7 @@ use Rattle.worker.proofs.Worker.new.Tie as tie
 
 returns : tie.Need-returns
 unfolding newWorker
-returns c = record { registers = refl; view = refl }
+returns c = refl
 
 pub new-spec : {M : Type 1} → statement M
 new-spec = tie.close (tie.spec returns)

@@ -36,7 +36,7 @@ returns-2 c =
 result-requires : tie.Need-result-requires
 result-requires c κs =
     let ready = c .before .before .before .before .pre in
-    (ready .registers, omega arith, λ h. ready .operand h (omega arith))
+    (omega arith, λ h. ready .operand h (omega arith))
 
 with-register-requires : tie.Need-with-register-requires
 with-register-requires c κs = search needs
