@@ -130,9 +130,6 @@ module _ (plan : Plan) (sound : Sound plan) (s : State) (i : Inv plan s) (t : Ta
   pub rounds-fit : t .rounds ≤ 2064
   rounds-fit = omega (arith, shows .rounds, bounded plan s sound i .rounds, bounded plan s sound i .movesFit)
 
-  pub records-in : t .records ≤ 1032
-  records-in = omega (arith, shows .logged .count, bounded plan s sound i .recordsFit)
-
   -- the queue of a condition or a barrier, by the codes
   pub queue-same : (q : Queue) → keep (λ u. eqb (getD on u 0) (fateCode (waiting q))) (s .waiting) ≡ queueOf s q
   unfolding queueOf
@@ -179,9 +176,6 @@ module _ (plan : Plan) (sound : Sound plan) (s : State) (i : Inv plan s) (t : Ta
 
       pub list-first : getD (s .list) 0 0 ≡ w
       list-first = ap (λ (ws : List ℕ). getD ws 0 0) (holds-token .list)
-
-      pub queue-first : getD (listOf (t .lists .list)) 0 0 ≡ w
-      queue-first = ap (λ (ws : List ℕ). getD ws 0 0) (shows .lined .list .list) ∙ list-first
 
       pub records-fit : (y : Sync) → stepAt plan w (workerAt s w .place) ≡ sync y → t .records + 1 ≤ 1032
       unfolding apply

@@ -33,7 +33,7 @@ use Rattle.engine.specs.declared.state.Tally.{Tally}
 use Rattle.engine.specs.declared.hold.Decision.{Decision}
 use Rattle.engine.specs.Shows.{Logged, Shows}
 use Rattle.engine.specs.Held.{keyOf, Asking, Decided, Settled}
-use Rattle.engine.specs.Moving.{Holding}
+use Rattle.engine.specs.Moving.{Holding, heldAs}
 use Rattle.engine.proofs.Facts as facts
 use Rattle.engine.proofs.Facts.{Holder, ruleAt, applied, hold-core, list-known, next-known}
 use Rattle.engine.proofs.HoldShows.{StepDone, heldWorker, heldTally, hold-shows}
@@ -42,9 +42,12 @@ use Rattle.engine.proofs.HoldShows.{StepDone, heldWorker, heldTally, ho
 pub marked : (s : rounds.State) (log : List ℕ) (mark records : ℕ) → mark ≡ records → Logged s records log → Logged s mark log
 marked s log mark records e logged = subst⁻¹ (λ (k : ℕ). Logged s k log) e logged
 
-module _ (r : Record) (w : ℕ) (v : Worker) (t : Tally) (sizes on : List ℕ) (mark copied : List Bool) (memory log work : List ℕ)
-    (h : Holding r w v t sizes on mark copied memory log work) where
-  pub asking : Asking r w (v .held) (t .lists)
+module _ (r : Record) (w count : ℕ) (t : Tally) (sizes on : List ℕ) (mark copied : List Bool) (memory log work : List ℕ)
+    (h : Holding r w count t sizes on mark copied memory log work) where
+  abbrev v : Worker
+  v = h .v
+
+  pub asking : Asking r w count (t .lists)
   asking =
       let a = h .here in
       let lined = a .shows .lined in
@@ -55,7 +58,7 @@ module _ (r : Record) (w : ℕ) (v : Worker) (t : Tally) (sizes on : List ℕ) (
         operand = h .range .object (h .late);
         barrier = λ e. let q = h .range .queue (omega arith) (omega arith) in omega arith;
         holder = facts.can-small (h .plan) (a .sound) (a .state) (a .inv) t (a .workers) on mark copied memory log work (a .shows) w (a .able);
-        count = subst (λ (u : Worker). u .held ≤ 128) (a .worker) small;
+        count = subst⁻¹ (λ (k : ℕ). k ≤ 128) (h .counted) (subst (λ (u : Worker). u .held ≤ 128) (a .worker) small);
         list = lined .list .good;
         next = lined .next .good;
         waiting = lined .waiting .good;
@@ -64,14 +67,15 @@ module _ (r : Record) (w : ℕ) (v : Worker) (t : Tally) (sizes on : List ℕ) (
         total = facts.lists-fit (h .plan) (a .sound) (a .state) (a .inv) t (a .workers) on mark copied memory log work (a .shows);
       }
 
-  pub held-same : v .held ≡ workerAt (h .here .state) w .held
+  held-same : count ≡ workerAt (h .here .state) w .held
   held-same =
       let a = h .here in
-      ap (λ (u : Worker). u .held) (sym (a .worker))
+      h .counted
+      ∙ ap (λ (u : Worker). u .held) (sym (a .worker))
       ∙ facts.held-same (h .plan) (a .sound) (a .state) (a .inv) t (a .workers) on mark copied memory log work (a .shows) w (a .able)
 
   -- the ruling is that of the definitions
-  pub ruled : (d : Decision) → Decided r w (v .held) sizes (t .lists) on d
+  pub ruled : (d : Decision) → Decided r w count sizes (t .lists) on d
       → rulingOf (d .ruling) (listOf (d .queued)) ≡ ruleOf (h .plan) (queueOf (h .here .state)) (workerAt (h .here .state) w .held) (syncOf (r .op) (r .number))
   ruled d x =
       let a = h .here in
@@ -102,7 +106,7 @@ module _ (r : Record) (w : ℕ) (v : Worker) (t : Tally) (sizes on : List ℕ) (
       facts.holds-token (h .plan) (a .sound) (a .state) (a .inv) t (a .workers) on mark copied memory log work (a .shows) w (a .able) (h .nobody)
 
   -- the lists after the decision are those of the definitions, so they name workers
-  module _ (d : Decision) (x : Decided r w (v .held) sizes (t .lists) on d) where
+  module _ (d : Decision) (x : Decided r w count sizes (t .lists) on d) where
     pub lists-moved : ListsMoved (t .lists) (ruleAt (h .plan) (h .here .state) w y) w (d .lists)
     lists-moved = subst (λ (k : rounds.Ruling). ListsMoved (t .lists) k w (d .lists)) (ruled d x) (x .moved)
 
@@ -142,13 +146,8 @@ module _ (r : Record) (w : ℕ) (v : Worker) (t : Tally) (sizes on : List ℕ) (
       let a = h .here in
       facts.records-fit (h .plan) (a .sound) (a .state) (a .inv) t (a .workers) on mark copied memory log work (a .shows) w (a .able) (h .nobody) y step
 
-  pub place-small : v .place ≤ 128
-  place-small =
-      let a = h .here in
-      subst (λ (u : Worker). u .place ≤ 128) (a .worker) (facts.place-small (h .plan) (a .sound) (a .state) (a .inv) t (a .workers) on mark copied memory log work (a .shows) w (a .able))
-
   -- what the parts leave shows the state after the move
-  module _ (d : Decision) (x : Decided r w (v .held) sizes (t .lists) on d) (on′ : List ℕ) (f : FatesSettled on (d .ruling) w (listOf (d .queued)) on′)
+  module _ (d : Decision) (x : Decided r w count sizes (t .lists) on d) (on′ : List ℕ) (f : FatesSettled on (d .ruling) w (listOf (d .queued)) on′)
       (memory′ : List ℕ) (copied′ : List Bool) (b : Settled (d .ruling .bytes) w memory copied work memory′ copied′)
       (log′ : List ℕ) (l : log′ ≡ sets log (8 * t .records) (entryBytes (entryAs (t .rounds + 1) w (r .op) (r .number) (d .ruling .outcome))))
       (o : Round) (mark′ : List Bool) (turned : TurnedOver (d .lists .list) (d .lists .next) w (t .rounds) mark o mark′) where
@@ -191,7 +190,7 @@ module _ (r : Record) (w : ℕ) (v : Worker) (t : Tally) (sizes on : List ℕ) (
         }
 
     pub shown : Shows (workersOf (h .plan)) (move (h .plan) (h .here .state) w) (heldTally t (d .lists) o)
-        (set (h .here .workers) w (record { place = v .place + 1; held = d .ruling .held; registers = v .registers })) on′ mark′ copied′ memory′ log′ work
+        (set (h .here .workers) w (heldAs v (d .ruling .held))) on′ mark′ copied′ memory′ log′ work
     shown =
         let a = h .here in
         subst (λ (u : Worker). Shows (workersOf (h .plan)) (move (h .plan) (a .state) w) (heldTally t (d .lists) o) (set (a .workers) w u) on′ mark′ copied′ memory′ log′ work)

@@ -1,3 +1,4 @@
+pub mod Gathered
 pub mod Settling
 pub mod Deciding
 pub mod CanMove
@@ -9,4 +10,7 @@ pub mod ArriveShows
 pub mod StartShows
 pub mod Holder
 pub mod Stepping
+pub mod Synced
 pub mod Playing
+pub mod OwnTurns
+pub mod Played

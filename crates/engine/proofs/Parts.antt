@@ -24,24 +24,8 @@ use Rattle.rules.specs.declared.lists.Lists.{Lists}
 use Rattle.rules.specs.Codes.{fateCode}
 use Rattle.token.specs.Token.{raised, NewRound, SameRound, TurnedOver}
 use Rattle.token.specs.declared.Round.{Round}
-use Rattle.engine.specs.Shows.{idle, Bytes, Lined, Logged, Shows}
-use Rattle.engine.specs.declared.state.Tally.{Tally}
+use Rattle.engine.specs.Shows.{idle, Bytes, Lined}
 use Rattle.engine.proofs.CanMove.{or-false, cond-false, none-absent, can-token, can-fence, absent-all, mark-set, raised-length, raised-at}
-
--- the tally is read by its parts
-pub retally : {n : ℕ} {s : State} {t : Tally} {workers : List Worker} {on : List ℕ} {mark copied : List Bool} {memory log work : List ℕ} (t′ : Tally)
-    → t′ .lists ≡ t .lists → t′ .away ≡ t .away → t′ .moves ≡ t .moves → t′ .rounds ≡ t .rounds → t′ .records ≡ t .records
-    → Shows n s t workers on mark copied memory log work → Shows n s t′ workers on mark copied memory log work
-retally {n} {s} {t} {workers} {on} {mark} {copied} {memory} {log} {work} t′ l a m r k shows =
-    record {
-      bytes = shows .bytes;
-      lined =
-          subst⁻¹ (λ (x : Lists). Lined n s x (t′ .away) on mark) l
-          (subst⁻¹ (λ (x : ℕ). Lined n s (t .lists) x on mark) a (shows .lined));
-      logged = subst⁻¹ (λ (x : ℕ). Logged s x log) k (shows .logged);
-      moves = shows .moves ∙ sym m;
-      rounds = shows .rounds ∙ sym r;
-    }
 
 -- a worker seen as a record of the code and the rest is so seen with its own arrival and fate
 pub as-viewed : {x : steps.Worker} (v : Worker) {a : Bool} {cs : Copies} {f : Fate} → x ≡ viewed v a cs f → x ≡ viewed v (x .arrived) cs (x .fate)

@@ -7,7 +7,7 @@ use mathlib.Core.Bool.{Bool, true, false, cond, _||_}
 use mathlib.Core.Path.{_≡_, refl, sym, ap, _∙_, subst, subst⁻¹}
 use mathlib.Core.List.{List, [], _∷_, _++_}
 use lib.Dec.{leb}
-use lib.ListN.{length, getD, set, take, replicate}
+use lib.ListN.{length, getD, take, replicate}
 use lib.Seq.{take-suc}
 use borrow.Author.Tests.{leb-false}
 use Rattle.protocol.specs.Format.{Plan, upTo, planOf}
@@ -21,12 +21,10 @@ use Rattle.protocol.proofs.Laws.{start-inv}
 use Rattle.protocol.proofs.Sound.{Sound}
 use Rattle.queue.specs.List.{Below}
 use Rattle.pages.specs.Copies.{Sizes}
-use Rattle.worker.specs.Private.{Fresh}
 use Rattle.worker.specs.declared.Worker.{Worker}
-use Rattle.engine.specs.Moving.{Opened, Playing, Stepping, Stepped}
+use Rattle.engine.specs.Moving.{Opened, Playing, Stepping}
 use Rattle.engine.specs.Shows.{idle, Shows}
 use Rattle.engine.specs.declared.state.Tally.{Tally}
-use Rattle.engine.specs.declared.state.Moved.{Moved}
 use Rattle.engine.proofs.StartShows.{start-shows}
 
 play-one : (plan : Plan) (s : State) (ts : List ℕ) (w : ℕ) → play plan s (ts ++ (w ∷ [])) ≡ turn plan (play plan s ts) w
@@ -71,13 +69,6 @@ turn-below n (w ∷ ws) (suc i) e h = turn-below n ws i (right (leb n w) e) (ome
     right true q = absurd (let z : _≡_ {A = ℕ} 0 1 = cc in omega arith)
     right false q = q
 
--- the same values under other names
-pub shows-as : {n : ℕ} {s : State} {t t′ : Tally} {workers workers′ : List Worker} {on on′ : List ℕ} {mark mark′ copied copied′ : List Bool}
-    {memory memory′ log log′ work work′ : List ℕ} → Shows n s t workers on mark copied memory log work
-    → memory′ ≡ memory → log′ ≡ log → work′ ≡ work → workers′ ≡ workers → on′ ≡ on → mark′ ≡ mark → copied′ ≡ copied → t′ ≡ t
-    → Shows n s t′ workers′ on′ mark′ copied′ memory′ log′ work′
-shows-as x e₀ e₁ e₂ e₃ e₄ e₅ e₆ e₇ = rw (e₀, e₁, e₂, e₃, e₄, e₅, e₆, e₇) x
-
 -- the first round's list
 pub up-to-below : {n : ℕ} {workers : List ℕ} → n ≤ 8 → workers ≡ upTo n → Below 8 workers
 up-to-below {n} {workers} l e w m = go (decLt w 8)
@@ -91,12 +82,12 @@ module _ {file : List ℕ} {n : ℕ} {sizes firsts turns memory₀ log₀ work�
   pub plan-sound : Sound (planOf file)
   plan-sound = sound-file file (p .laid .ok)
 
-  pub started : {t : Tally} {mark : List Bool} {log work : List ℕ} (v : Worker) → Fresh v → Opened n (replicate 8 false) t mark → Sizes memory₀ work → length log ≡ 8256
-      → Shows (workersOf (planOf file)) (after (planOf file) memory₀ turns 0) t (replicate 8 v) (replicate 8 0) mark (replicate 64 false) memory₀ log work
+  pub started : {t : Tally} {mark : List Bool} {log work : List ℕ} → Opened n (replicate 8 false) t mark → Sizes memory₀ work → length log ≡ 8256
+      → Shows (workersOf (planOf file)) (after (planOf file) memory₀ turns 0) t (replicate 8 idle) (replicate 8 0) mark (replicate 64 false) memory₀ log work
   unfolding play
-  started {t} {mark} v fresh opened sizes room =
+  started {t} {mark} opened sizes room =
       let o = subst (λ (k : ℕ). Opened k (replicate 8 false) t mark) (p .workers) opened in
-      start-shows (planOf file) (plan-sound .workers) _ v _ memory₀ _ _ (record {
+      start-shows (planOf file) (plan-sound .workers) _ _ memory₀ _ _ (record {
         list = o .list;
         next = o .next;
         waiting = o .waiting;
@@ -104,7 +95,6 @@ module _ {file : List ℕ} {n : ℕ} {sizes firsts turns memory₀ log₀ work�
         moves = o .moves;
         rounds = o .rounds;
         records = o .records;
-        fresh = fresh;
         marks = o .marks;
         sizes = sizes;
         logSize = room;
@@ -119,13 +109,13 @@ module _ {file : List ℕ} {n : ℕ} {sizes firsts turns memory₀ log₀ work�
 
     module _ {t : Tally} {workers : List Worker} {on : List ℕ} {mark copied : List Bool} {memory log work : List ℕ}
         (shows : Shows (workersOf (planOf file)) (after (planOf file) memory₀ turns i) t workers on mark copied memory log work) where
-      can-same : {b : Bool} → getD mark (getD turns i 0) false ≡ b → can (after (planOf file) memory₀ turns i) (getD turns i 0) ≡ b
+      pub can-same : {b : Bool} → getD mark (getD turns i 0) false ≡ b → can (after (planOf file) memory₀ turns i) (getD turns i 0) ≡ b
       can-same e = sym (shows .lined .able (getD turns i 0) turn-small) ∙ e
 
       -- the turn moves
       module _ (e : getD mark (getD turns i 0) false ≡ true) where
-        pub stepping : Stepping file sizes firsts (getD turns i 0) (getD workers (getD turns i 0) idle) t on mark copied memory log work
-        stepping =
+        unfoldable pub stepping : {v : Worker} → getD workers (getD turns i 0) idle ≡ v → Stepping file sizes firsts (getD turns i 0) v t on mark copied memory log work
+        stepping same =
             record {
               laid = p .laid;
               here = record {
@@ -135,18 +125,17 @@ module _ {file : List ℕ} {n : ℕ} {sizes firsts turns memory₀ log₀ work�
                 workers = workers;
                 shows = shows;
                 able = can-same e;
-                worker = refl;
+                worker = same;
               };
             }
 
-        pub moved : {m : Moved} {on′ : List ℕ} {mark′ copied′ : List Bool} {memory′ log′ work′ : List ℕ}
-            → Stepped file sizes firsts (getD turns i 0) (getD workers (getD turns i 0) idle) t on mark copied memory log work m on′ mark′ copied′ memory′ log′ work′
-            → Shows (workersOf (planOf file)) (after (planOf file) memory₀ turns (i + 1)) (m .tally) (set workers (getD turns i 0) (m .worker)) on′ mark′ copied′ memory′ log′ work′
-        unfolding stepping
-        moved {m} {on′} {mark′} {copied′} {memory′} {log′} {work′} s =
-            subst⁻¹ (λ (x : State). Shows (workersOf (planOf file)) x (m .tally) (set workers (getD turns i 0) (m .worker)) on′ mark′ copied′ memory′ log′ work′)
+        pub moved : {t′ : Tally} {workers′ : List Worker} {on′ : List ℕ} {mark′ copied′ : List Bool} {memory′ log′ work′ : List ℕ}
+            → Shows (workersOf (planOf file)) (move (planOf file) (after (planOf file) memory₀ turns i) (getD turns i 0)) t′ workers′ on′ mark′ copied′ memory′ log′ work′
+            → Shows (workersOf (planOf file)) (after (planOf file) memory₀ turns (i + 1)) t′ workers′ on′ mark′ copied′ memory′ log′ work′
+        moved {t′} {workers′} {on′} {mark′} {copied′} {memory′} {log′} {work′} x =
+            subst⁻¹ (λ (y : State). Shows (workersOf (planOf file)) y t′ workers′ on′ mark′ copied′ memory′ log′ work′)
             (after-move (planOf file) memory₀ turns i h (can-same e))
-            (s stepping)
+            x
 
       -- or it passes
       pub passed : getD mark (getD turns i 0) false ≡ false

@@ -14,7 +14,7 @@ use Rattle.protocol.specs.Turns.{workersOf, start, can}
 use Rattle.protocol.specs.Report.{logBytes}
 use Rattle.pages.specs.Copies.{Sizes, copiesIn}
 use Rattle.pages.proofs.Slots.{unmarked}
-use Rattle.worker.specs.Private.{viewed, Fresh}
+use Rattle.worker.specs.Private.{viewed}
 use Rattle.worker.specs.declared.Worker.{Worker}
 use Rattle.queue.specs.List.{Holds}
 use Rattle.rules.specs.Codes.{fateCode}
@@ -35,7 +35,7 @@ count-length zero i = refl
 count-length (suc k) i = ap suc (count-length k (suc i))
 
 -- what the code starts with
-pub record Starts (n : ℕ) (t : Tally) (v : Worker) (mark : List Bool) (memory log work : List ℕ) : Type 0 where
+pub record Starts (n : ℕ) (t : Tally) (mark : List Bool) (memory log work : List ℕ) : Type 0 where
   pub list : Holds (t .lists .list) (upTo n)
   pub next : Holds (t .lists .next) []
   pub waiting : Holds (t .lists .waiting) []
@@ -43,13 +43,12 @@ pub record Starts (n : ℕ) (t : Tally) (v : Worker) (mark : List Bool) (memory 
   pub moves : t .moves ≡ 0
   pub rounds : t .rounds ≡ 0
   pub records : t .records ≡ 0
-  pub fresh : Fresh v
   pub marks : mark ≡ raised (upTo n) (replicate 8 false)
   pub sizes : Sizes memory work
   pub logSize : length log ≡ 8256
 
-module _ (plan : Plan) (small : workersOf plan ≤ 8) (t : Tally) (v : Worker) (mark : List Bool) (memory log work : List ℕ)
-    (starts : Starts (workersOf plan) t v mark memory log work) where
+module _ (plan : Plan) (small : workersOf plan ≤ 8) (t : Tally) (mark : List Bool) (memory log work : List ℕ)
+    (starts : Starts (workersOf plan) t mark memory log work) where
   at-start : (w : ℕ) → workerAt (start plan memory) w ≡ newWorker
   unfolding start
   at-start w = new-at (workersOf plan) w
@@ -58,15 +57,15 @@ module _ (plan : Plan) (small : workersOf plan ≤ 8) (t : Tally) (v : Worker) (
   unfolding newWorker
   late w = ap (λ (x : steps.Worker). x .arrived) (at-start w)
 
-  at-code : (w : ℕ) → w < workersOf plan → getD (replicate 8 v) w idle ≡ v
-  at-code w l = getD-replicate 8 w v idle (omega arith)
+  at-code : (w : ℕ) → w < workersOf plan → getD (replicate 8 idle) w idle ≡ idle
+  at-code w l = getD-replicate 8 w idle idle (omega arith)
 
   view : (w : ℕ) → w < workersOf plan
-      → workerAt (start plan memory) w ≡ viewed (getD (replicate 8 v) w idle) false (copiesIn (replicate 64 false) work w) going
+      → workerAt (start plan memory) w ≡ viewed (getD (replicate 8 idle) w idle) false (copiesIn (replicate 64 false) work w) going
+  unfolding newWorker
   view w l =
       at-start w
-      ∙ sym (starts .fresh)
-      ∙ ap (λ (cs : Copies). viewed v false cs going) (sym (unmarked 64 work w))
+      ∙ ap (λ (cs : Copies). viewed idle false cs going) (sym (unmarked 64 work w))
       ∙ ap (λ (x : Worker). viewed x false (copiesIn (replicate 64 false) work w) going) (sym (at-code w l))
 
   able : (u : ℕ) → u < 8 → getD mark u false ≡ can (start plan memory) u
@@ -77,13 +76,13 @@ module _ (plan : Plan) (small : workersOf plan ≤ 8) (t : Tally) (v : Worker) (
       ∙ or-false (member u (upTo (workersOf plan))) (getD-replicate 8 u false false l)
       ∙ sym (can-fence (start plan memory) u (λ w m. late w))
 
-  pub start-shows : Shows (workersOf plan) (start plan memory) t (replicate 8 v) (replicate 8 0) mark (replicate 64 false) memory log work
+  pub start-shows : Shows (workersOf plan) (start plan memory) t (replicate 8 idle) (replicate 8 0) mark (replicate 64 false) memory log work
   unfolding start logBytes
   start-shows =
       record {
         bytes = record {
           shared = refl;
-          worker = λ w l. as-viewed (getD (replicate 8 v) w idle) (view w l);
+          worker = λ w l. as-viewed (getD (replicate 8 idle) w idle) (view w l);
           eight = refl;
           sizes = starts .sizes;
           marks = length-replicate 64 false;

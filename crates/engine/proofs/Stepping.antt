@@ -6,7 +6,6 @@ use mathlib.Core.Bool.{Bool}
 use mathlib.Core.Path.{_≡_, refl, sym, ap, _∙_, subst, subst⁻¹}
 use mathlib.Core.List.{List, [], _∷_}
 use lib.ListN.{length, getD, set}
-use lib.Seq.{set-getD}
 use borrow.Author.Tests.{eq-eqb}
 use Rattle.protocol.specs.Format.{Step, own, sync, records, firstIn, planOf}
 use Rattle.protocol.specs.Steps.{stepAt}
@@ -24,8 +23,8 @@ use Rattle.token.specs.Token.{arrivedCan}
 use Rattle.moves.specs.Moves.{fetchedAs, stepOfBody, InRange, OwnReady, OwnMoved}
 use Rattle.moves.proofs.Fetched.{fetchable, fetched, in-range}
 use Rattle.moves.proofs.Owned.{own-kind, sync-kind, step-of-own, own-ready}
-use Rattle.engine.specs.Moving.{Shown, Holding, Held, Stepping}
-use Rattle.engine.specs.Shows.{idle, Shows}
+use Rattle.engine.specs.Moving.{Holding, heldAs, Held, Stepping}
+use Rattle.engine.specs.Shows.{Shows}
 use Rattle.engine.specs.declared.state.Tally.{Tally}
 use Rattle.engine.specs.declared.state.Moved.{Moved}
 use Rattle.engine.proofs.Facts.{list-below, moves-fit, can-known, can-small, place-same, place-small, list-some}
@@ -81,7 +80,7 @@ module _ {file sizes firsts : List ℕ} {w : ℕ} {v : Worker} {t : Tally} {on :
   end-right = h .laid .firstsRight (w + 1) (omega (arith, small)) ∙ ap (λ (k : ℕ). firstIn (records file) k) (add-one w)
 
   -- what `fetch` requires
-  place-here : v .place ≤ 128
+  pub place-here : v .place ≤ 128
   place-here =
       subst (λ (x : Worker). x .place ≤ 128) (h .here .worker)
       (place-small (planOf file) (h .here .sound) s (h .here .inv) t workers on mark copied memory log work shows w (h .here .able))
@@ -138,21 +137,21 @@ module _ {file sizes firsts : List ℕ} {w : ℕ} {v : Worker} {t : Tally} {on :
         record { worker = m .worker; others = m .others; size = m .size; markSize = m .markSize })
 
     pub arrive-left : {away′ : ℕ} {mark′ : List Bool} → 32 ≤ r .op → 1 ≤ t .away → away′ ≡ t .away - 1 → mark′ ≡ arrivedCan (listOf (t .lists .list)) (t .away) w mark
-        → Shows (workersOf (planOf file)) (move (planOf file) s w) (onceMore t away′) (set workers w v) on mark′ copied memory log work
+        → Shows (workersOf (planOf file)) (move (planOf file) s w) (onceMore t away′) workers on mark′ copied memory log work
     arrive-left {away′} {mark′} late some away marks =
-        subst⁻¹ (λ (k : ℕ). Shows (workersOf (planOf file)) (move (planOf file) s w) (onceMore t k) (set workers w v) on mark′ copied memory log work) away
-        (subst⁻¹ (λ (bs : List Bool). Shows (workersOf (planOf file)) (move (planOf file) s w) (onceMore t (t .away - 1)) (set workers w v) on bs copied memory log work)
+        subst⁻¹ (λ (k : ℕ). Shows (workersOf (planOf file)) (move (planOf file) s w) (onceMore t k) workers on mark′ copied memory log work) away
+        (subst⁻¹ (λ (bs : List Bool). Shows (workersOf (planOf file)) (move (planOf file) s w) (onceMore t (t .away - 1)) workers on bs copied memory log work)
         (marks ∙ ap (λ (ws : List ℕ). arrivedCan ws (t .away) w mark) (shows .lined .list .list))
-        (subst⁻¹ (λ (vs : List Worker). Shows (workersOf (planOf file)) (move (planOf file) s w) (onceMore t (t .away - 1)) vs on (arrivedCan (s .list) (t .away) w mark) copied memory log work)
-        (ap (λ (x : Worker). set workers w x) (sym (h .here .worker)) ∙ set-getD workers w idle)
         (arrive-shows (planOf file) (h .here .sound .workers) s (h .here .inv) t workers on mark copied memory log work shows
-        w (syncOf (r .op) (r .number)) (h .here .able) some (step-here (step-sync-here late)))))
+        w (syncOf (r .op) (r .number)) (h .here .able) some (step-here (step-sync-here late))))
 
-    pub holding : 32 ≤ r .op → t .away ≡ 0 → Holding r w v t sizes on mark copied memory log work
+    pub holding : 32 ≤ r .op → t .away ≡ 0 → Holding r w (v .held) t sizes on mark copied memory log work
     holding late near =
         record {
           plan = planOf file;
+          v = v;
           here = h .here;
+          counted = refl;
           nobody = near;
           late = late;
           range = range;
@@ -161,7 +160,7 @@ module _ {file sizes firsts : List ℕ} {w : ℕ} {v : Worker} {t : Tally} {on :
         }
 
     pub hold-left : {m : Moved} {on′ : List ℕ} {mark′ copied′ : List Bool} {memory′ log′ : List ℕ} → 32 ≤ r .op → t .away ≡ 0
-        → Held r w v t sizes on mark copied memory log work m on′ mark′ copied′ memory′ log′
-        → Shown (planOf file) w s workers m on′ mark′ copied′ memory′ log′ work
+        → Held r w (v .held) t sizes on mark copied memory log work m on′ mark′ copied′ memory′ log′
+        → Shows (workersOf (planOf file)) (move (planOf file) s w) (m .tally) (set workers w (heldAs v (m .held))) on′ mark′ copied′ memory′ log′ work
     unfolding holding
     hold-left late near held = held (holding late near)

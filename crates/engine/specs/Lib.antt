@@ -1,3 +1,4 @@
 pub mod Shows
 pub mod Held
 pub mod Moving
+pub mod Turning

@@ -2,8 +2,9 @@
 use Prim.Native.Nat.{ℕ, _+_, _*_, _<_}
 use mathlib.Core.Bool.{Bool, false, cond}
 use mathlib.Core.Path.{_≡_}
-use mathlib.Core.List.{List, [], _∷_}
+use mathlib.Core.List.{List, [], _∷_, map}
 use lib.ListN.{length, getD, take}
+use Rattle.protocol.specs.Format.{upTo}
 use Rattle.protocol.specs.Rounds.{State, workerAt}
 use Rattle.protocol.specs.Turns.{can}
 use Rattle.protocol.specs.Report.{logBytes}
@@ -17,6 +18,14 @@ use Rattle.engine.specs.declared.state.Tally.{Tally}
 
 abbrev pub idle : Worker
 idle = record { place = 0; held = 0; registers = 0 }
+
+-- the record of worker w, from the arrays of places, counts and registers
+abbrev pub workerIn : List ℕ → List ℕ → List ℕ → ℕ → Worker
+workerIn places held registers w = record { place = getD places w 0; held = getD held w 0; registers = getD registers w 0 }
+
+-- the records of all eight
+unfoldable pub gathered : List ℕ → List ℕ → List ℕ → List Worker
+gathered places held registers = map (λ w. workerIn places held registers w) (upTo 8)
 
 -- how many of a list have not arrived at the fence
 unfoldable pub absent : State → List ℕ → ℕ

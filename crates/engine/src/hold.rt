@@ -11,7 +11,6 @@ use rules::ruling::Bytes;
 use rules::ruling::Ruling;
 use rules::ruling::rule;
 use token::turn_over;
-use worker::Worker;
 use writer::append_record;
 ghost use mathlib.Core.Path.{_≡_};
 ghost use Prim.Native.Nat.{_+_, _*_, _≤_, _<_};
@@ -105,7 +104,7 @@ fn record_step(
 pub fn hold(
     r: Record,
     w: usize,
-    v: Worker,
+    held: u64,
     t: Tally,
     sizes: &[u8; 8],
     on: &mut [u64; 8],
@@ -115,11 +114,11 @@ pub fn hold(
     log: &mut [u8],
     work: &[u8],
 ) -> Moved
-    requires { ⌜ Holding r w v t (now sizes) (now on) (now can) (now copied) (now memory) (now log) (now work) ⌝ }
-    ensures { λ m. ⌜ Held r w v t (now (sizes .entry)) (now (on .entry)) (now (can .entry)) (now (copied .entry)) (now (memory .entry)) (now (log .entry)) (now (work .entry)) m (now (on .exit)) (now (can .exit)) (now (copied .exit)) (now (memory .exit)) (now (log .exit)) ⌝ }
+    requires { ⌜ Holding r w held t (now sizes) (now on) (now can) (now copied) (now memory) (now log) (now work) ⌝ }
+    ensures { λ m. ⌜ Held r w held t (now (sizes .entry)) (now (on .entry)) (now (can .entry)) (now (copied .entry)) (now (memory .entry)) (now (log .entry)) (now (work .entry)) m (now (on .exit)) (now (can .exit)) (now (copied .exit)) (now (memory .exit)) (now (log .exit)) ⌝ }
 {
     let lists = t.lists;
-    let d = decide(r, w as u64, v.held, sizes, lists, on);
+    let d = decide(r, w as u64, held, sizes, lists, on);
     let ruling = d.ruling;
     let queued = d.queued;
     let after = d.lists;
@@ -134,11 +133,7 @@ pub fn hold(
     let here = round.list;
     let later = round.next;
     Moved {
-        worker: Worker {
-            place: v.place + 1,
-            held: ruling.held,
-            registers: v.registers,
-        },
+        held: ruling.held,
         tally: Tally {
             lists: Lists {
                 list: here,

@@ -1,5 +1,6 @@
-// The engine: one move of a worker, and a list of turns.
+// The engine: the moves of the workers, and a list of turns.
 pub mod hold;
+pub mod own;
 pub mod play;
 pub mod state;
-pub mod step;
+pub mod sync;

@@ -1,11 +1,11 @@
 // A list of turns.
+use crate::own::play_own;
 use crate::state::Played;
 use crate::state::Tally;
-use crate::step::step;
+use crate::sync::sync;
 use queue::Queue;
 use rules::lists::Lists;
 use token::raise;
-use worker::Worker;
 ghost use Prim.Native.Nat.{_≤_};
 ghost use Rattle.engine.specs.Moving.{Opened, Playing, Over};
 
@@ -46,24 +46,40 @@ pub fn play(
     requires { ⌜ Playing (now file) n (now sizes) (now firsts) (now turns) (now memory) (now log) (now work) ⌝ }
     ensures { λ p. ⌜ Over (now (file .entry)) (now (turns .entry)) (now (memory .entry)) p (now (memory .exit)) (now (log .exit)) (now (work .exit)) ⌝ }
 {
-    let fresh = Worker::new();
-    let mut workers = [fresh; 8];
+    let mut places = [0usize; 8];
+    let mut held = [0u64; 8];
+    let mut registers = [0u64; 8];
     let mut on = [0u64; 8];
     let mut can = [false; 8];
     let mut copied = [false; 64];
     let mut t = first_round(n as u64, &mut can);
     let mut i = 0;
     while i < turns.len() {
-        let w = turns[i] as usize;
-        if can[w] {
-            let v = workers[w];
-            let m = step(
-                file,
-                sizes,
-                firsts,
+        let own = play_own(
+            file,
+            firsts,
+            turns,
+            i,
+            &can,
+            &mut places,
+            &held,
+            &mut registers,
+            &mut copied,
+            memory,
+            work,
+        );
+        i = own.turn;
+        t.moves += own.moves;
+        if i < turns.len() {
+            let w = turns[i] as usize;
+            let r = own.step;
+            t = sync(
+                r,
                 w,
-                v,
                 t,
+                sizes,
+                &mut places,
+                &mut held,
                 &mut on,
                 &mut can,
                 &mut copied,
@@ -71,11 +87,8 @@ pub fn play(
                 log,
                 work,
             );
-            let after = m.worker;
-            workers[w] = after;
-            t = m.tally;
+            i += 1;
         }
-        i += 1;
     }
     Played {
         tally: t,

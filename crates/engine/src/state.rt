@@ -1,6 +1,6 @@
 // What the engine keeps beside the workers' records and the lent bytes.
+use plan::decode::Record;
 use rules::lists::Lists;
-use worker::Worker;
 
 // The lists, how many of the round's list are still away from the fence, and the tallies.
 pub struct Tally {
@@ -11,9 +11,16 @@ pub struct Tally {
     pub records: usize,
 }
 
-// A worker's record after its move, and the rest.
+// The turn at which a list of turns stands, the moves made up to it, and the step of the worker that it names.
+pub struct Reached {
+    pub turn: usize,
+    pub moves: u64,
+    pub step: Record,
+}
+
+// The holder's count after its step, and the rest.
 pub struct Moved {
-    pub worker: Worker,
+    pub held: u64,
     pub tally: Tally,
 }
 

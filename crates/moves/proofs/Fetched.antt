@@ -137,9 +137,6 @@ module _ (file : List ℕ) (ok : check file ≡ accepted) where
   pub within : (w place : ℕ) → place < length (stepsOf (planOf file) w) → firstIn rs w + place < firstIn rs (suc w)
   within w place h = omega (arith, steps-end w)
 
-  pub within-steps : (w place : ℕ) → firstIn rs w + place < firstIn rs (suc w) → place < length (stepsOf (planOf file) w)
-  within-steps w place h = omega (arith, steps-end w)
-
   fetched-record : (w place : ℕ) → firstIn rs w + place < firstIn rs (suc w)
       → fetchedAs file (firstIn rs w) (firstIn rs (suc w)) place ≡ bodyOf (getD rs (firstIn rs w + place) blank)
   fetched-record w place h =

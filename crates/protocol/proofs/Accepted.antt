@@ -142,7 +142,7 @@ getD-any (x ∷ l) zero d e h = refl
 getD-any (x ∷ l) (suc i) d e h = getD-any l i d e (omega arith)
 
 -- what a plan's list has at a number below its length
-mapped : {A : Type 0} (f : ℕ → A) (k i : ℕ) (d : A) → i < k → getD (map f (upTo k)) i d ≡ f i
+pub mapped : {A : Type 0} (f : ℕ → A) (k i : ℕ) (d : A) → i < k → getD (map f (upTo k)) i d ≡ f i
 mapped f k i d h =
     getD-any (map f (upTo k)) i d (f 0) (let e = length-map (upTo k) f ∙ length-countFrom k 0 in omega arith)
     ∙ (List·getD-map f (upTo k) i 0 ∙ ap f (getD-countFrom k 0 i 0 h ∙ omega arith))

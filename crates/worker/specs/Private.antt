@@ -1,14 +1,14 @@
 -- What joins a worker's record in the code to the definitions of Steps, and what its own steps ensure.
 use Prim.Native.Nat.{ℕ, _+_, _-_, _*_, _/_, _%_, _^_, _≤_, _<_}
-use mathlib.Core.Bool.{Bool, false, cond, not}
+use mathlib.Core.Bool.{Bool, cond, not}
 use mathlib.Core.Path.{_≡_}
 use mathlib.Core.List.{List, [], _∷_}
 use lib.Dec.{eqb}
 use lib.ListN.{getD, set}
 use Rattle.protocol.specs.Format.{Own, assign, load, store, add, subtract, skipZero, skipNonzero}
-use Rattle.protocol.specs.Pages.{Copies, noCopies, loadWord, storeWord}
+use Rattle.protocol.specs.Pages.{Copies, loadWord, storeWord}
 use Rattle.protocol.specs.Steps as steps
-use Rattle.protocol.specs.Steps.{Fate, going, workerOf, newWorker, ownStep}
+use Rattle.protocol.specs.Steps.{Fate, workerOf, ownStep}
 use Rattle.worker.specs.declared.Worker.{Worker}
 use Rattle.worker.specs.declared.Outcome.{Outcome}
 use Rattle.worker.specs.declared.Outcome.the-variants.{Private, Stores}
@@ -24,9 +24,6 @@ registersOf v = digit (v .registers) 0 ∷ digit (v .registers) 1 ∷ digit (v .
 -- the worker of the definitions: what the record holds, and what the engine keeps beside it
 abbrev pub viewed : Worker → Bool → Copies → Fate → steps.Worker
 viewed v arrived copies fate = workerOf (v .place) (registersOf v) (v .held) arrived copies fate
-
-abbrev pub Fresh : Worker → Type 0
-Fresh v = viewed v false noCopies going ≡ newWorker
 
 -- w is v with another value in register r
 pub record Replaced (v : Worker) (r value : ℕ) (w : Worker) : Type 0 where

@@ -2,7 +2,7 @@
 ghost use Prim.Native.Nat.{_<_, _≤_};
 ghost use mathlib.Core.Path.{_≡_};
 ghost use lib.ListN.{getD};
-ghost use Rattle.worker.specs.Private.{Fresh, registersOf, Replaced, resultOf, skipOf, Ready, Stepped};
+ghost use Rattle.worker.specs.Private.{registersOf, Replaced, resultOf, skipOf, Ready, Stepped};
 
 // The registers are one number's digits to base 65536, register 0 lowest.
 pub struct Worker {
@@ -23,16 +23,6 @@ pub struct Moved {
 }
 
 impl Worker {
-    pub fn new() -> Worker
-        ensures { λ r. ⌜ Fresh r ⌝ }
-    {
-        Worker {
-            place: 0,
-            held: 0,
-            registers: 0,
-        }
-    }
-
     pub fn register(self, r: u8) -> u16
         requires { ⌜ r < 4 ⌝ }
         ensures { λ value. ⌜ value ≡ getD (registersOf self) r 0 ⌝ }

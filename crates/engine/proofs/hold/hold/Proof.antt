@@ -5,7 +5,7 @@ use mathlib.Core.Path.{subst⁻¹}
 use mathlib.Core.List.{List}
 use Rattle.queue.specs.List.{Below}
 use Rattle.engine.proofs.Deciding.{below-keep}
-use Rattle.engine.proofs.Holder.{asking, list-below, next-below, rounds-fit, moves-fit, records-fit, place-small, shown, marked}
+use Rattle.engine.proofs.Holder.{asking, list-below, next-below, rounds-fit, moves-fit, records-fit, shown, marked}
 use Rattle.engine.proofs.hold.hold.Statement.{statement}
 use Rattle.engine.proofs.hold.hold.Tie as tie
 
@@ -42,14 +42,11 @@ turn-over-requires c κs =
     let x = c .before .before .before .before .before .before .before .before .before .before .before .before .before .before .before .before .before .before .decide .ensures in
     (asking _ _ _ _ _ _ _ _ _ _ _ p .holder, rounds-fit _ _ _ _ _ _ _ _ _ _ _ p, list-below _ _ _ _ _ _ _ _ _ _ _ p _ x, x .moved .next .good, next-below _ _ _ _ _ _ _ _ _ _ _ p _ x)
 
-add-t35 : tie.Need-add-t35
-add-t35 c = let h = place-small _ _ _ _ _ _ _ _ _ _ _ (c .before .before .before .before .before .before .before .before .before .before .before .before .before .before .before .before .before .before .before .before .before .before .before .before .before .before .before .before .pre) in omega arith
-
 add-t25 : tie.Need-add-t25
-add-t25 c = let h = moves-fit _ _ _ _ _ _ _ _ _ _ _ (c .before .before .before .before .before .before .before .before .before .before .before .before .before .before .before .before .before .before .before .before .before .before .before .before .before .before .before .before .before .pre) in omega arith
+add-t25 c = let h = moves-fit _ _ _ _ _ _ _ _ _ _ _ (c .before .before .before .before .before .before .before .before .before .before .before .before .before .before .before .before .before .before .before .before .before .before .before .before .before .before .before .before .pre) in omega arith
 
 same-length : tie.Need-same-length
-same-length c = c .before .before .before .before .before .before .before .before .before .before .before .before .before .before .before .settle-bytes .ensures .size
+same-length c = c .before .before .before .before .before .before .before .before .before .before .before .before .before .before .settle-bytes .ensures .size
 
 same-length-2 : tie.Need-same-length-2
 same-length-2 c = search needs
@@ -57,8 +54,8 @@ same-length-2 c = search needs
 returns : tie.Need-returns
 returns c =
     λ h.
-    let k = c .before .before .before .before .before .before .before .before .before .before .before .record-step .ensures in
-    let z = shown _ _ _ _ _ _ _ _ _ _ _ h _ (c .before .before .before .before .before .before .before .before .before .before .before .before .before .before .before .before .before .before .before .before .before .before .before .decide .ensures) _ (c .before .before .before .before .before .before .before .before .before .before .before .before .before .before .before .before .before .before .settle-fates .ensures) _ _ (c .before .before .before .before .before .before .before .before .before .before .before .before .before .before .before .settle-bytes .ensures) _ (k .1) _ _ (c .before .before .before .before .turn-over .ensures) in
+    let k = c .before .before .before .before .before .before .before .before .before .before .record-step .ensures in
+    let z = shown _ _ _ _ _ _ _ _ _ _ _ h _ (c .before .before .before .before .before .before .before .before .before .before .before .before .before .before .before .before .before .before .before .before .before .before .decide .ensures) _ (c .before .before .before .before .before .before .before .before .before .before .before .before .before .before .before .before .before .settle-fates .ensures) _ _ (c .before .before .before .before .before .before .before .before .before .before .before .before .before .before .settle-bytes .ensures) _ (k .1) _ _ (c .before .before .before .turn-over .ensures) in
     record {
       bytes = z .bytes;
       lined = z .lined;
@@ -76,7 +73,6 @@ hold-spec =
     settle-bytes-requires
     record-step-requires
     turn-over-requires
-    add-t35
     add-t25
     same-length
     same-length-2

@@ -1,76 +1,66 @@
-use native.Mathlib.Omega.{arith}
+-- `play`: the turns of a run.
 use borrow.Author.Needs.{needs}
-use Prim.Native.Nat.{_-_, _≤_}
-use mathlib.Core.Logic.{⊎-elim}
+use native.Mathlib.Omega.{arith}
+use Prim.Native.Nat.{_-_}
 use lib.ListN.{length}
 use lib.Seq.{take-all}
-use Rattle.protocol.specs.Format.{planOf}
-use Rattle.protocol.specs.Turns.{workersOf}
-use Rattle.engine.specs.Shows.{Shows}
-use Rattle.engine.proofs.Playing.{after, plan-sound, started, turn-small, stepping, moved, passed, shows-as}
+use Rattle.engine.specs.Shows.{gathered}
+use Rattle.engine.proofs.Playing.{plan-sound, turn-small}
+use Rattle.engine.proofs.Played.{Stands, begins, turning, moves-here, went-on, syncing, synced}
 use Rattle.engine.proofs.play.play.Statement.{statement}
 use Rattle.engine.proofs.play.play.Tie as tie
 
 abbrev Inv-loop : tie.InvT-loop
-Inv-loop file n sizes firsts turns memory₀ log₀ work₀ workers₀ on₀ can₀ copied₀ t₀ i₀ memory log work workers on can copied t i =
-    (i ≤ length turns) × Shows (workersOf (planOf file)) (after (planOf file) memory₀ turns i) t workers on can copied memory log work
+Inv-loop file n sizes firsts turns memory₀ log₀ work₀ places₀ held₀ registers₀ on₀ can₀ copied₀ t₀ i₀ memory log work places held registers on can copied t i =
+    Stands file turns memory₀ i t places held registers on can copied memory log work
 
 abbrev μ-loop : tie.MeasureT-loop
-μ-loop file n sizes firsts turns memory₀ log₀ work₀ workers₀ on₀ can₀ copied₀ t₀ i₀ memory log work workers on can copied t i =
+μ-loop file n sizes firsts turns memory₀ log₀ work₀ places₀ held₀ registers₀ on₀ can₀ copied₀ t₀ i₀ memory log work places held registers on can copied t i =
     length turns - i
 
-new-requires : tie.Need-new-requires Inv-loop μ-loop
-new-requires c κs = search needs
-
 first-round-requires : tie.Need-first-round-requires Inv-loop μ-loop
-first-round-requires c κs = omega (arith, c .before .before .before .before .before .before .before .pre .workers, plan-sound (c .before .before .before .before .before .before .before .pre) .workers)
+first-round-requires c κs = omega (arith, c .before .before .before .before .before .before .pre .workers, plan-sound (c .before .before .before .before .before .before .pre) .workers)
 
 loop-holds : tie.Need-loop-holds Inv-loop μ-loop
-loop-holds c =
-    let p = c .before .before .before .before .before .before .before .before .pre in
-    (omega arith, started p (c .before .before .new .result) (c .before .before .new .ensures) (c .first-round .ensures) (p .bytes) (p .room))
+loop-holds c = let p = c .before .before .before .before .before .before .before .pre in begins p (c .first-round .ensures) (p .bytes) (p .room)
+
+play-own-requires : tie.Need-play-own-requires Inv-loop μ-loop
+play-own-requires c κs = turning (c .before .before .before .before .before .before .before .before .before .before .before .before .before .before .before .before .pre) (c .before .before .before .before .before .before .before .before .loop .inv)
+
+add-t : tie.Need-add-t Inv-loop μ-loop
+add-t c = omega (arith, moves-here (c .before .before .before .before .before .before .before .before .before .before .before .before .before .before .before .before .before .before .before .before .before .pre) (went-on (c .before .before .before .before .before .before .before .before .before .before .before .before .before .before .before .before .before .before .before .before .before .pre) (c .before .before .before .before .before .before .before .before .before .before .before .before .before .loop .inv) (c .before .before .before .before .play-own .ensures)))
 
 shared-slice-read-w : tie.Need-shared-slice-read-w Inv-loop μ-loop
 shared-slice-read-w c = search needs
 
 cast-w : tie.Need-cast-w Inv-loop μ-loop
-cast-w c = omega (arith, turn-small (c .before .before .before .before .before .before .before .before .before .before .before .pre) _ (c .before .loop-test .taken))
+cast-w c = omega (arith, turn-small (c .before .before .before .before .before .before .before .before .before .before .before .before .before .before .before .before .before .before .before .before .before .before .before .pre) _ (c .before .if1 .taken))
 
-array-read-if1 : tie.Need-array-read-if1 Inv-loop μ-loop
-array-read-if1 c = turn-small (c .before .before .before .before .before .before .before .before .before .before .before .pre) _ (c .before .loop-test .taken)
-
-mul-v : tie.Need-mul-v Inv-loop μ-loop
-mul-v c = omega (arith, turn-small (c .before .before .before .before .before .before .before .before .before .before .before .before .pre) _ (c .before .before .loop-test .taken))
-
-array-copy-out-v : tie.Need-array-copy-out-v Inv-loop μ-loop
-array-copy-out-v c = turn-small (c .before .before .before .before .before .before .before .before .before .before .before .before .pre) _ (c .before .before .loop-test .taken)
-
-step-requires : tie.Need-step-requires Inv-loop μ-loop
-step-requires c κs = stepping (c .before .before .before .before .before .before .before .before .before .before .before .before .before .before .before .before .before .before .before .pre) _ (c .before .before .before .before .before .before .before .before .before .loop-test .taken) (c .before .before .before .before .before .before .before .before .before .before .loop .inv .1) (c .before .before .before .before .before .before .before .if1 .taken)
-
-mul-workers : tie.Need-mul-workers Inv-loop μ-loop
-mul-workers c = omega (arith, turn-small (c .before .before .before .before .before .before .before .before .before .before .before .before .before .before .before .before .before .before .before .before .before .before .before .before .before .before .before .pre) _ (c .before .before .before .before .before .before .before .before .before .before .before .before .before .before .before .before .before .loop-test .taken))
-
-array-set-from-workers : tie.Need-array-set-from-workers Inv-loop μ-loop
-array-set-from-workers c = turn-small (c .before .before .before .before .before .before .before .before .before .before .before .before .before .before .before .before .before .before .before .before .before .before .before .before .before .before .before .pre) _ (c .before .before .before .before .before .before .before .before .before .before .before .before .before .before .before .before .before .loop-test .taken)
+sync-requires : tie.Need-sync-requires Inv-loop μ-loop
+sync-requires c κs =
+    let p = c .before .before .before .before .before .before .before .before .before .before .before .before .before .before .before .before .before .before .before .before .before .before .before .before .before .before .before .before .before .before .before .before .pre in
+    let w = c .before .before .before .before .before .before .before .before .before .before .before .before .before .before .before .play-own .ensures in
+    let l = c .before .before .before .before .before .before .before .before .before .before .if1 .taken in
+    syncing p (went-on p (c .before .before .before .before .before .before .before .before .before .before .before .before .before .before .before .before .before .before .before .before .before .before .before .before .loop .inv) w) l (w .stopped l)
 
 add-i : tie.Need-add-i Inv-loop μ-loop
-add-i c = omega (arith, c .before .before .loop-test .taken, c .before .before .before .before .before .before .before .before .before .before .before .before .good .1 .1 .1 .1 .0)
+add-i c = omega (arith, c .before .before .before .before .before .before .before .before .before .before .before .before .before .before .before .if1 .taken, c .before .before .before .before .before .before .before .before .before .before .before .before .before .before .before .before .before .before .before .before .before .before .before .before .before .before .before .before .before .before .before .before .before .before .before .before .before .good .1 .1 .1 .1 .0)
 
 loop-less : tie.Need-loop-less Inv-loop μ-loop
-loop-less c = search needs
+loop-less c = omega (arith, c .before .before .before .before .before .before .before .before .before .before .before .before .before .before .before .if1 .taken, c .before .before .before .before .before .before .before .before .before .before .before .before .before .before .before .before .before .before .before .before .play-own .ensures .forward)
 
 loop-again : tie.Need-loop-again Inv-loop μ-loop
 loop-again c =
-    let p = c .before .before .before .before .before .before .before .before .before .before .before .before .pre in
-    let h = c .before .before .loop-test .taken in
-    let shows = c .before .before .before .loop .inv .1 in (
-      omega (arith, h),
-      ⊎-elim
-          (λ x. shows-as (moved p _ h shows (x .0 .taken) (x .8 .ensures)) (x .17) (x .18) (x .19) (x .20) (x .21) (x .22) (x .23) (x .24))
-          (λ x. shows-as (passed p _ h shows (x .0 .left)) (x .1) (x .2) (x .3) (x .4) (x .5) (x .6) (x .7) (x .8))
-          (c .if1 .came),
-    )
+    let p = c .before .before .before .before .before .before .before .before .before .before .before .before .before .before .before .before .before .before .before .before .before .before .before .before .before .before .before .before .before .before .before .before .before .before .before .before .before .pre in
+    let w = c .before .before .before .before .before .before .before .before .before .before .before .before .before .before .before .before .before .before .before .before .play-own .ensures in
+    let l = c .before .before .before .before .before .before .before .before .before .before .before .before .before .before .before .if1 .taken in
+    synced p (went-on p (c .before .before .before .before .before .before .before .before .before .before .before .before .before .before .before .before .before .before .before .before .before .before .before .before .before .before .before .before .before .loop .inv) w) l (w .stopped l) (c .before .before .before .before .sync .ensures)
+
+loop-less-2 : tie.Need-loop-less-2 Inv-loop μ-loop
+loop-less-2 c = omega (arith, c .before .before .before .before .before .before .before .before .before .before .before .before .before .loop-test .taken, c .if1 .left)
+
+loop-again-2 : tie.Need-loop-again-2 Inv-loop μ-loop
+loop-again-2 c = went-on (c .before .before .before .before .before .before .before .before .before .before .before .before .before .before .before .before .before .before .before .before .before .before .pre) (c .before .before .before .before .before .before .before .before .before .before .before .before .before .before .loop .inv) (c .before .before .before .before .before .play-own .ensures)
 
 same-length : tie.Need-same-length Inv-loop μ-loop
 same-length c = search needs
@@ -83,13 +73,13 @@ same-length-3 c = search needs
 
 returns : tie.Need-returns Inv-loop μ-loop
 returns c =
-    let a = c .before .before .before .before .before .before .before .before .before .before .args in
-    let i = c .before .loop .inv .0 in
+    let a = c .before .before .before .before .before .before .before .before .before .args in
+    let s = c .before .loop .inv in
     record {
-      workers = c .before .loop .workers;
+      workers = gathered (c .before .loop .places) (c .before .loop .held) (c .before .loop .registers);
       marks = c .before .loop .can;
       copied = c .before .loop .copied;
-      shows = rw (take-all (c .before .loop .i) (a .turns .now) (omega (arith, c .loop-test .left))) at (c .before .loop .inv .1);
+      shows = rw (take-all (c .before .loop .i) (a .turns .now) (omega (arith, c .loop-test .left))) at (s .shows);
     }
 
 pub play-spec : {M : Type 1} → statement M
@@ -98,20 +88,18 @@ play-spec =
     (tie.spec
     Inv-loop
     μ-loop
-    new-requires
     first-round-requires
     loop-holds
+    play-own-requires
+    add-t
     shared-slice-read-w
     cast-w
-    array-read-if1
-    mul-v
-    array-copy-out-v
-    step-requires
-    mul-workers
-    array-set-from-workers
+    sync-requires
     add-i
     loop-less
     loop-again
+    loop-less-2
+    loop-again-2
     same-length
     same-length-2
     same-length-3

@@ -1,0 +1,92 @@
+-- The turns of a run: those up to one that synchronises, that one, and so on.
+use Prim.Native.Nat.{ℕ, _+_, _≤_, _<_}
+use native.Mathlib.Omega.{arith}
+use mathlib.Core.Bool.{Bool, false}
+use mathlib.Core.Path.{_≡_, refl}
+use mathlib.Core.List.{List}
+use lib.ListN.{length, getD, take, replicate}
+use Rattle.protocol.specs.Format.{planOf, countFrom}
+use Rattle.protocol.specs.Turns.{workersOf}
+use Rattle.protocol.proofs.Bounds.{play-inv}
+use Rattle.protocol.proofs.Laws.{start-inv}
+use Rattle.plan.specs.declared.decode.Record.{Record}
+use Rattle.pages.specs.Copies.{Sizes}
+use Rattle.engine.specs.Moving.{Opened, Playing, Eight, Syncing, Synced}
+use Rattle.engine.specs.Turning.{Turning, Stopped, Went, raisedBy}
+use Rattle.engine.specs.Shows.{gathered, Shows}
+use Rattle.engine.specs.declared.state.Tally.{Tally}
+use Rattle.engine.specs.declared.state.Reached.{Reached}
+use Rattle.engine.proofs.Facts.{moves-fit}
+use Rattle.engine.proofs.Gathered.{gathered-at}
+use Rattle.engine.proofs.Playing.{after, plan-sound, started, turn-small, stepping, moved}
+
+-- what stands before turn i
+pub record Stands (file : List ℕ) (turns start : List ℕ) (i : ℕ) (t : Tally) (places held registers on : List ℕ) (mark copied : List Bool) (memory log work : List ℕ) : Type 0 where
+  pub within : i ≤ length turns
+  pub eight : Eight places held registers
+  pub shows : Shows (workersOf (planOf file)) (after (planOf file) start turns i) t (gathered places held registers) on mark copied memory log work
+
+module _ {file : List ℕ} {n : ℕ} {sizes firsts turns memory₀ log₀ work₀ : List ℕ} (p : Playing file n sizes firsts turns memory₀ log₀ work₀) where
+  pub begins : {t : Tally} {mark : List Bool} {log work : List ℕ} → Opened n (replicate 8 false) t mark → Sizes memory₀ work → length log ≡ 8256
+      → Stands file turns memory₀ 0 t (replicate 8 0) (replicate 8 0) (replicate 8 0) (replicate 8 0) mark (replicate 64 false) memory₀ log work
+  unfolding gathered countFrom
+  begins opened sizes room =
+      record {
+        within = omega arith;
+        eight = record { places = refl; held = refl; registers = refl };
+        shows = started p opened sizes room;
+      }
+
+  module _ {i : ℕ} {t : Tally} {places held registers on : List ℕ} {mark copied : List Bool} {memory log work : List ℕ}
+      (s : Stands file turns memory₀ i t places held registers on mark copied memory log work) where
+    pub turning : Turning file firsts turns i mark places held registers copied memory work
+    turning =
+        record {
+          n = n;
+          sizes = sizes;
+          start = memory₀;
+          log₀ = log₀;
+          work₀ = work₀;
+          playing = p;
+          within = s .within;
+          eight = s .eight;
+          tally = t;
+          on = on;
+          log = log;
+          shows = s .shows;
+        }
+
+    pub moves-here : t .moves ≤ 2064
+    moves-here =
+        moves-fit (planOf file) (plan-sound p) (after (planOf file) memory₀ turns i)
+        (play-inv (planOf file) (plan-sound p) _ (take i turns) (start-inv (planOf file) memory₀ (plan-sound p))) t (gathered places held registers) on mark copied memory log work (s .shows)
+
+    pub went-on : {r : Reached} {places′ registers′ : List ℕ} {copied′ : List Bool} {work′ : List ℕ}
+        → Went file firsts turns i mark places held registers copied memory work r places′ registers′ copied′ work′
+        → Stands file turns memory₀ (r .turn) (raisedBy t (r .moves)) places′ held registers′ on mark copied′ memory log work′
+    unfolding turning
+    went-on w = record { within = w .within; eight = w .eight turning; shows = w .shows turning }
+
+    -- at a turn that synchronises
+    module _ (l : i < length turns) {r : Record} (stop : Stopped file firsts turns i mark places r) where
+      pub syncing : Syncing r (getD turns i 0) t sizes places held on mark copied memory log work
+      unfolding stepping
+      syncing =
+          record {
+            file = file;
+            firsts = firsts;
+            registers = registers;
+            eight = s .eight;
+            stepping = stepping p i l (s .shows) (stop .able) (gathered-at places held registers (getD turns i 0) (turn-small p i l));
+            all = refl;
+            fetched = stop .fetched;
+            late = stop .late;
+          }
+
+      pub synced : {t′ : Tally} {places′ held′ on′ : List ℕ} {mark′ copied′ : List Bool} {memory′ log′ : List ℕ}
+          → Synced r (getD turns i 0) t sizes places held on mark copied memory log work t′ places′ held′ on′ mark′ copied′ memory′ log′
+          → Stands file turns memory₀ (i + 1) t′ places′ held′ registers on′ mark′ copied′ memory′ log′ work
+      unfolding syncing stepping
+      synced done =
+          let d = done syncing in
+          record { within = omega arith; eight = d .eight; shows = moved p i l (s .shows) (stop .able) (d .shows) }

@@ -1,0 +1,167 @@
+-- `play_own`: turns that pass or make an own step.
+use borrow.Author.Needs.{needs}
+use native.Mathlib.Omega.{arith}
+use Prim.Native.Nat.{_-_}
+use mathlib.Core.Logic.{⊎-elim}
+use mathlib.Core.Path.{_∙_, sym}
+use lib.ListN.{length}
+use Rattle.engine.proofs.Playing.{turn-small}
+use Rattle.engine.proofs.Stepping.{small, bytes-right, marks-right, fetch-fits, own-fits}
+use Rattle.engine.proofs.OwnTurns.{SoFar, so-as, none-yet, passes, here, moves-on}
+use Rattle.engine.proofs.own.play_own.Statement.{statement}
+use Rattle.engine.proofs.own.play_own.Tie as tie
+
+abbrev Inv-loop : tie.InvT-loop
+Inv-loop file firsts turns from can places₀ held registers₀ copied₀ memory work₀ i₀ moves₀ places registers copied work i moves =
+    SoFar file firsts turns from can places₀ held registers₀ copied₀ memory work₀ i moves places registers copied work
+
+abbrev μ-loop : tie.MeasureT-loop
+μ-loop file firsts turns from can places₀ held registers₀ copied₀ memory work₀ i₀ moves₀ places registers copied work i moves =
+    length turns - i
+
+loop-holds : tie.Need-loop-holds Inv-loop μ-loop
+loop-holds c = none-yet (c .before .before .before .before .pre)
+
+shared-slice-read-w : tie.Need-shared-slice-read-w Inv-loop μ-loop
+shared-slice-read-w c = search needs
+
+cast-w : tie.Need-cast-w Inv-loop μ-loop
+cast-w c = omega (arith, turn-small (c .before .before .before .before .before .before .before .pre .playing) _ (c .before .loop-test .taken))
+
+element-copy-out-if1 : tie.Need-element-copy-out-if1 Inv-loop μ-loop
+element-copy-out-if1 c = turn-small (c .before .before .before .before .before .before .before .pre .playing) _ (c .before .loop-test .taken)
+
+mul-place : tie.Need-mul-place Inv-loop μ-loop
+mul-place c = omega (arith, turn-small (c .before .before .before .before .before .before .before .before .before .pre .playing) _ (c .before .before .before .loop-test .taken))
+
+element-copy-out-place : tie.Need-element-copy-out-place Inv-loop μ-loop
+element-copy-out-place c = omega (arith, turn-small (c .before .before .before .before .before .before .before .before .before .pre .playing) _ (c .before .before .before .loop-test .taken))
+
+mul-fetch : tie.Need-mul-fetch Inv-loop μ-loop
+mul-fetch c = omega (arith, turn-small (c .before .before .before .before .before .before .before .before .before .before .pre .playing) _ (c .before .before .before .before .loop-test .taken))
+
+element-copy-out-fetch : tie.Need-element-copy-out-fetch Inv-loop μ-loop
+element-copy-out-fetch c = omega (arith, turn-small (c .before .before .before .before .before .before .before .before .before .before .pre .playing) _ (c .before .before .before .before .loop-test .taken))
+
+add-fetch : tie.Need-add-fetch Inv-loop μ-loop
+add-fetch c = omega (arith, turn-small (c .before .before .before .before .before .before .before .before .before .before .before .pre .playing) _ (c .before .before .before .before .before .loop-test .taken))
+
+mul-fetch-2 : tie.Need-mul-fetch-2 Inv-loop μ-loop
+mul-fetch-2 c = omega (arith, turn-small (c .before .before .before .before .before .before .before .before .before .before .before .pre .playing) _ (c .before .before .before .before .before .loop-test .taken))
+
+element-copy-out-fetch-2 : tie.Need-element-copy-out-fetch-2 Inv-loop μ-loop
+element-copy-out-fetch-2 c = omega (arith, turn-small (c .before .before .before .before .before .before .before .before .before .before .before .pre .playing) _ (c .before .before .before .before .before .loop-test .taken))
+
+fetch-requires : tie.Need-fetch-requires Inv-loop μ-loop
+fetch-requires c κs = fetch-fits (here (c .before .before .before .before .before .before .before .loop .inv) (c .before .before .before .before .before .before .loop-test .taken) (c .before .before .before .if1 .taken) (c .before .before .before .before .before .before .before .before .before .before .before .before .pre))
+
+same-length : tie.Need-same-length Inv-loop μ-loop
+same-length c = c .before .before .before .before .before .before .before .before .before .before .loop .inv .shows (c .before .before .before .before .before .before .before .before .before .before .before .before .before .before .before .pre) .bytes .sizes .workSize ∙ sym (c .before .before .before .before .before .before .before .before .before .before .before .before .before .before .before .pre .shows .bytes .sizes .workSize)
+
+returns : tie.Need-returns Inv-loop μ-loop
+returns c =
+    let so = c .before .before .before .before .before .before .before .before .before .before .loop .inv in
+    record {
+      forward = so .forward;
+      within = so .within;
+      stopped = λ l. record { able = c .before .before .before .before .before .before .if1 .taken; fetched = c .before .before .fetch .ensures; late = c .if2 .taken };
+      eight = so .eight;
+      shows = so .shows;
+    }
+
+mul-t26 : tie.Need-mul-t26 Inv-loop μ-loop
+mul-t26 c = omega (arith, turn-small (c .before .before .before .before .before .before .before .before .before .before .before .before .before .before .before .pre .playing) _ (c .before .before .before .before .before .before .before .before .before .loop-test .taken))
+
+element-copy-out-t40 : tie.Need-element-copy-out-t40 Inv-loop μ-loop
+element-copy-out-t40 c = omega (arith, turn-small (c .before .before .before .before .before .before .before .before .before .before .before .before .before .before .before .pre .playing) _ (c .before .before .before .before .before .before .before .before .before .loop-test .taken))
+
+mul-t29 : tie.Need-mul-t29 Inv-loop μ-loop
+mul-t29 c = omega (arith, turn-small (c .before .before .before .before .before .before .before .before .before .before .before .before .before .before .before .before .pre .playing) _ (c .before .before .before .before .before .before .before .before .before .before .loop-test .taken))
+
+element-copy-out-t43 : tie.Need-element-copy-out-t43 Inv-loop μ-loop
+element-copy-out-t43 c = omega (arith, turn-small (c .before .before .before .before .before .before .before .before .before .before .before .before .before .before .before .before .pre .playing) _ (c .before .before .before .before .before .before .before .before .before .before .loop-test .taken))
+
+own-move-requires : tie.Need-own-move-requires Inv-loop μ-loop
+own-move-requires c κs =
+    let h = here (c .before .before .before .before .before .before .before .before .before .before .before .before .before .before .loop .inv) (c .before .before .before .before .before .before .before .before .before .before .before .before .before .loop-test .taken) (c .before .before .before .before .before .before .before .before .before .before .if1 .taken) (c .before .before .before .before .before .before .before .before .before .before .before .before .before .before .before .before .before .before .before .pre) in
+    (bytes-right h, marks-right h, small h, own-fits h (c .before .before .before .before .before .before .fetch .ensures) (omega (arith, c .before .before .before .before .if2 .left)))
+
+mul-places : tie.Need-mul-places Inv-loop μ-loop
+mul-places c = omega (arith, turn-small (c .before .before .before .before .before .before .before .before .before .before .before .before .before .before .before .before .before .before .before .before .before .before .pre .playing) _ (c .before .before .before .before .before .before .before .before .before .before .before .before .before .before .before .before .loop-test .taken))
+
+element-write-places : tie.Need-element-write-places Inv-loop μ-loop
+element-write-places c = omega (arith, turn-small (c .before .before .before .before .before .before .before .before .before .before .before .before .before .before .before .before .before .before .before .before .before .before .pre .playing) _ (c .before .before .before .before .before .before .before .before .before .before .before .before .before .before .before .before .loop-test .taken))
+
+mul-registers : tie.Need-mul-registers Inv-loop μ-loop
+mul-registers c = omega (arith, turn-small (c .before .before .before .before .before .before .before .before .before .before .before .before .before .before .before .before .before .before .before .before .before .before .pre .playing) _ (c .before .before .before .before .before .before .before .before .before .before .before .before .before .before .before .before .loop-test .taken))
+
+element-write-registers : tie.Need-element-write-registers Inv-loop μ-loop
+element-write-registers c = omega (arith, turn-small (c .before .before .before .before .before .before .before .before .before .before .before .before .before .before .before .before .before .before .before .before .before .before .pre .playing) _ (c .before .before .before .before .before .before .before .before .before .before .before .before .before .before .before .before .loop-test .taken))
+
+add-moves : tie.Need-add-moves Inv-loop μ-loop
+add-moves c = omega (arith, c .before .before .before .before .before .before .before .before .before .before .before .before .before .before .before .before .before .loop .inv .few, c .before .before .before .before .before .before .before .before .before .before .before .before .before .before .before .before .loop-test .taken, c .before .before .before .before .before .before .before .before .before .before .before .before .before .before .before .before .before .before .before .before .before .before .good .1 .1 .0)
+
+add-i : tie.Need-add-i Inv-loop μ-loop
+add-i c = omega (arith, c .before .before .before .loop-test .taken)
+
+loop-less : tie.Need-loop-less Inv-loop μ-loop
+loop-less c = search needs
+
+loop-again : tie.Need-loop-again Inv-loop μ-loop
+loop-again c =
+    let so = c .before .before .before .before .loop .inv in
+    let l = c .before .before .before .loop-test .taken in
+    ⊎-elim
+    (λ x. so-as (moves-on so l (x .0 .taken) (x .4 .ensures) (omega (arith, x .6 .left)) (x .11 .ensures)) (x .14) (x .15) (x .16) (x .17) (x .18))
+    (λ x. so-as (passes so l (x .0 .left)) (x .1) (x .2) (x .3) (x .4) (x .5))
+    (c .if1 .came)
+
+same-length-2 : tie.Need-same-length-2 Inv-loop μ-loop
+same-length-2 c = c .before .loop .inv .shows (c .before .before .before .before .before .before .pre) .bytes .sizes .workSize ∙ sym (c .before .before .before .before .before .before .pre .shows .bytes .sizes .workSize)
+
+returns-2 : tie.Need-returns-2 Inv-loop μ-loop
+returns-2 c =
+    let so = c .before .loop .inv in
+    record {
+      forward = so .forward;
+      within = so .within;
+      stopped = λ l. absurd (omega (arith, c .loop-test .left));
+      eight = so .eight;
+      shows = so .shows;
+    }
+
+pub play-own-spec : {M : Type 1} → statement M
+play-own-spec =
+    tie.close
+    (tie.spec
+    Inv-loop
+    μ-loop
+    loop-holds
+    shared-slice-read-w
+    cast-w
+    element-copy-out-if1
+    mul-place
+    element-copy-out-place
+    mul-fetch
+    element-copy-out-fetch
+    add-fetch
+    mul-fetch-2
+    element-copy-out-fetch-2
+    fetch-requires
+    same-length
+    returns
+    mul-t26
+    element-copy-out-t40
+    mul-t29
+    element-copy-out-t43
+    own-move-requires
+    mul-places
+    element-write-places
+    mul-registers
+    element-write-registers
+    add-moves
+    add-i
+    loop-less
+    loop-again
+    same-length-2
+    returns-2)
