@@ -3,6 +3,7 @@ use Prim.Native.Nat.{ℕ, _+_, _-_, _<_, _≤_}
 use mathlib.Core.Bool.{Bool, false, cond, not, _&&_, _||_}
 use mathlib.Core.Path.{_≡_}
 use mathlib.Core.List.{List}
+use mathlib.Core.Option.{some}
 use lib.Dec.{leb, ltb, eqb}
 use lib.ListN.{length, getD}
 use Rattle.protocol.specs.Format as format
@@ -32,6 +33,10 @@ stepRuling n opened sizes firsts i r =
     (refuseIf (leb 128 (readSteps firsts opened (r .worker) i)) protocol.tooManySteps
     (refuseIf (protocol.operandsOutside (format.rowOf (r .op)) (r .register) (r .number)) protocol.badOperand
     (refuseIf (eqb (r .op) 37 && eqb (getD sizes (r .number) 0) 0) protocol.noSize holds))))
+
+-- the rule of an op without a step
+abbrev pub noStepRuling : ℕ → protocol.Rule
+noStepRuling op = refuseIf (eqb op 0) protocol.badPlan (refuseIf (eqb op 1) protocol.badBarrier (some protocol.badOp))
 
 abbrev pub laterRuling : ℕ → ℕ → List ℕ → List ℕ → ℕ → Record → protocol.Rule
 laterRuling n opened sizes firsts i r =
