@@ -14,7 +14,7 @@ ghost use Prim.Native.Nat.{ℕ, _+_, _*_, _≤_, _<_};
 ghost use lib.ListN.{length, getD};
 ghost use Rattle.protocol.specs.Format.{rowOf, known};
 ghost use Rattle.plan.specs.Answer.{ruleOf, limitsOf, RowsRight};
-ghost use Rattle.plan.specs.Stepping.{outsideOf, readSteps, noStepRuling, stepRuling, laterRuling, StepsSoFar, Opened, StepsRead};
+ghost use Rattle.plan.specs.Stepping.{outsideOf, badWorker, readSteps, noStepRuling, stepRuling, laterRuling, StepsSoFar, Opened, StepsRead};
 
 // The index of each worker's first step; that of worker `n` is behind the last.
 pub struct Steps {
@@ -34,15 +34,30 @@ fn outside(row: Row, register: u8, number: u16) -> bool
     row.2 < number
 }
 
-// How many steps of a worker have been read, at record i: the last worker's steps reach up to it.
-fn steps_read(firsts: &[usize; 9], opened: u8, worker: u8, i: usize) -> usize
+// Whether a worker is not below n, or falls. The last opened, whose steps most records are, is tested first.
+fn bad_worker(worker: usize, n: usize, opened: usize) -> bool
+    requires { ⌜ worker < 256 ⌝ }
+    requires { ⌜ opened ≤ n ⌝ }
+    ensures { λ b. ⌜ b ≡ badWorker n opened worker ⌝ }
+{
+    if worker + 1 == opened {
+        return false;
+    }
+    if n <= worker {
+        return true;
+    }
+    worker < opened
+}
+
+// How many steps of a worker that does not fall have been read, at record i: the last worker's steps reach up to it.
+fn steps_read(firsts: &[usize; 9], opened: usize, worker: usize, i: usize) -> usize
     requires { ⌜ worker < 9 ⌝ }
+    requires { ⌜ opened ≤ worker + 1 ⌝ }
     requires { ⌜ (worker < opened → getD (now firsts) worker 0 ≤ i) ⌝ }
     ensures { λ r. ⌜ r ≡ readSteps (now (firsts .entry)) opened worker i ⌝ }
 {
-    if worker < opened {
-        let at = worker as usize;
-        return i - firsts[at];
+    if worker + 1 == opened {
+        return i - firsts[worker];
     }
     0
 }
@@ -64,8 +79,8 @@ fn no_step_ruling(op: u8) -> Ruling
 fn step_ruling(
     row: Row,
     r: Record,
-    n: u8,
-    opened: u8,
+    n: usize,
+    opened: usize,
     sizes: &[u8; 8],
     firsts: &[usize; 9],
     i: usize,
@@ -73,16 +88,14 @@ fn step_ruling(
     requires { ⌜ row ≡ limitsOf (rowOf (r .op)) ⌝ }
     requires { ⌜ known (r .op) ≡ true ⌝ }
     requires { ⌜ n ≤ 8 ⌝ }
+    requires { ⌜ opened ≤ n ⌝ }
     requires { ⌜ ((w : ℕ) → w < opened → getD (now firsts) w 0 ≤ i) ⌝ }
     ensures { λ s. ⌜ ruleOf s ≡ stepRuling n opened (now (sizes .entry)) (now (firsts .entry)) i r ⌝ }
 {
     let op = r.op;
-    let worker = r.worker;
+    let worker = r.worker as usize;
     let number = r.number;
-    if n <= worker {
-        return Ruling::Refuses(Refusal::BadWorker);
-    }
-    if worker + 1 < opened {
+    if bad_worker(worker, n, opened) {
         return Ruling::Refuses(Refusal::BadWorker);
     }
     if 128 <= steps_read(firsts, opened, worker, i) {
@@ -105,14 +118,15 @@ fn step_ruling(
 fn later_ruling(
     row: Row,
     r: Record,
-    n: u8,
-    opened: u8,
+    n: usize,
+    opened: usize,
     sizes: &[u8; 8],
     firsts: &[usize; 9],
     i: usize,
 ) -> Ruling
     requires { ⌜ row ≡ limitsOf (rowOf (r .op)) ⌝ }
     requires { ⌜ n ≤ 8 ⌝ }
+    requires { ⌜ opened ≤ n ⌝ }
     requires { ⌜ ((w : ℕ) → w < opened → getD (now firsts) w 0 ≤ i) ⌝ }
     ensures { λ s. ⌜ ruleOf s ≡ laterRuling n opened (now (sizes .entry)) (now (firsts .entry)) i r ⌝ }
 {
@@ -139,7 +153,7 @@ fn read_by_table(
     rows: [Row; 39],
     file: &[u8],
     count: usize,
-    n: u8,
+    n: usize,
     sizes: &[u8; 8],
     start: usize,
 ) -> Steps
@@ -149,7 +163,7 @@ fn read_by_table(
     ensures { λ r. ⌜ StepsRead (now (file .entry)) count (now (sizes .entry)) start r ⌝ }
 {
     let mut firsts = [0usize; 9];
-    let mut opened = 0u8;
+    let mut opened = 0usize;
     let mut i = start;
     while i < count {
         let Decoded::Read(r) = decode(file, 7 * i) else {
@@ -167,12 +181,12 @@ fn read_by_table(
                 firsts,
             };
         }
-        let worker = r.worker;
-        open_workers(&mut firsts, opened as usize, worker as usize, i);
+        let worker = r.worker as usize;
+        open_workers(&mut firsts, opened, worker, i);
         opened = worker + 1;
         i += 1;
     }
-    open_workers(&mut firsts, opened as usize, 8, count);
+    open_workers(&mut firsts, opened, 8, count);
     Steps {
         verdict: Verdict::Accepted,
         firsts,
@@ -186,5 +200,5 @@ pub fn read_steps(file: &[u8], count: usize, n: u8, sizes: &[u8; 8], start: usiz
     ensures { λ r. ⌜ StepsRead (now (file .entry)) count (now (sizes .entry)) start r ⌝ }
 {
     let rows = ROWS;
-    read_by_table(rows, file, count, n, sizes, start)
+    read_by_table(rows, file, count, n as usize, sizes, start)
 }

@@ -17,7 +17,7 @@ use Rattle.plan.proofs.steps.read_by_table.Tie as tie
 
 abbrev Inv-loop : tie.InvT-loop
 Inv-loop file count n sizes start rows firsts₀ opened₀ i₀ firsts opened i =
-    (start ≤ i) × (i ≤ count) × (opened ≤ 8) × (opened ≡ 0 → i ≡ start) × Kept (before file i) n sizes opened firsts
+    (start ≤ i) × (i ≤ count) × (opened ≤ n) × (opened ≡ 0 → i ≡ start) × Kept (before file i) n sizes opened firsts
     × (verdictFrom file count i ≡ verdictFrom file count start)
 
 abbrev μ-loop : tie.MeasureT-loop
@@ -68,9 +68,13 @@ array-copy-out-row c = c .place .ensures .1
 
 later-ruling-requires : tie.Need-later-ruling-requires Inv-loop μ-loop
 later-ruling-requires c κs =
-    let so = c .before .before .before .before .before .before .before .before .before .before .pre .1 .1 in
+    let a = c .before .before .before .before .before .before .before .before .before .before .args in
+    let pre = c .before .before .before .before .before .before .before .before .before .before .pre in
+    let so = pre .1 .1 in
+    let i = c .before .before .before .before .before .before .before .before .loop .i in
     let inv = c .before .before .before .before .before .before .before .before .loop .inv in
-    (ap (λ (k : ℕ). getD {A = Row} (c .before .before .before .before .before .before .before .before .before .before .args .t1) k (0, 0, 0)) (c .before .before .place .ensures .0) ∙ c .before .before .before .before .before .before .before .before .before .before .pre .0 (c .before .before .before .before .r .given .0 .0 .op) (omega arith), (so .eight, λ w h. let l = inside _ _ _ _ _ (inv .4) (so .eight) w h in let m = length-before (c .before .before .before .before .before .before .before .before .before .before .args .file .now) (c .before .before .before .before .before .before .before .before .loop .i) in omega arith))
+    let row = ap (λ (k : ℕ). getD {A = Row} (a .t1) k (0, 0, 0)) (c .before .before .place .ensures .0) ∙ pre .0 (c .before .before .before .before .r .given .0 .0 .op) (omega arith) in
+    (row, (so .eight, (inv .2, λ w h. let l = inside _ _ _ _ _ (inv .4) (so .eight) w h in let m = length-before (a .file .now) i in omega arith)))
 
 enum-known-ruling : tie.Need-enum-known-ruling Inv-loop μ-loop
 enum-known-ruling c = search needs
@@ -100,31 +104,11 @@ returns-2 c =
 enum-told-2 : tie.Need-enum-told-2 Inv-loop μ-loop
 enum-told-2 c = search needs
 
-cast-open-workers : tie.Need-cast-open-workers Inv-loop μ-loop
-cast-open-workers c = let inv = c .before .before .before .before .before .before .before .before .before .before .before .before .loop .inv in omega arith
-
-cast-open-workers-2 : tie.Need-cast-open-workers-2 Inv-loop μ-loop
-cast-open-workers-2 c = search needs
+cast-worker : tie.Need-cast-worker Inv-loop μ-loop
+cast-worker c = search needs
 
 open-workers-requires : tie.Need-open-workers-requires Inv-loop μ-loop
 open-workers-requires c κs =
-    let a = c .before .before .before .before .before .before .before .before .before .before .before .before .before .before .args in
-    let so = c .before .before .before .before .before .before .before .before .before .before .before .before .before .before .pre .1 .1 in
-    let file = a .file .now in
-    let i = c .before .before .before .before .before .before .before .before .before .before .before .before .loop .i in
-    let inv = c .before .before .before .before .before .before .before .before .before .before .before .before .loop .inv in
-    let r = c .before .before .before .before .before .before .before .before .r .given .0 .0 in
-    let e : decodedOf (recordAt file i) ≡ Read r = sym (c .before .before .before .before .before .before .before .before .before .before .decode .ensures) ∙ c .before .before .before .before .before .before .before .before .r .given .1 in
-    let least : 1 ≤ i = let l = so .least in let m = inv .0 in omega arith in
-    let noBarrier : c .before .before .before .before .before .before .before .before .before .before .before .before .loop .opened ≡ 0 → isBarrier (recordAt file i) ≡ false
-    = λ z. let at = inv .3 z in subst⁻¹ (λ (j : ℕ). isBarrier (recordAt file j) ≡ false) at (so .noBarrier (let t = c .before .before .before .before .before .before .before .before .before .before .before .loop-test .taken in omega arith)) in
-    let rule = sym (c .before .before .before .later-ruling .ensures) ∙ ap ruleOf (c .before .enum-told2 .given .1) in
-    let w : r .worker < a .n = worker-below file (a .count) (a .n) (a .sizes .now) _ _ i least (c .before .before .before .before .before .before .before .before .before .before .before .loop-test .taken) (so .eight) (inv .4) noBarrier r e rule in
-    let n = so .eight in
-    omega arith
-
-add-opened : tie.Need-add-opened Inv-loop μ-loop
-add-opened c =
     let a = c .before .before .before .before .before .before .before .before .before .before .before .before .before .before .before .args in
     let so = c .before .before .before .before .before .before .before .before .before .before .before .before .before .before .before .pre .1 .1 in
     let file = a .file .now in
@@ -137,6 +121,23 @@ add-opened c =
     = λ z. let at = inv .3 z in subst⁻¹ (λ (j : ℕ). isBarrier (recordAt file j) ≡ false) at (so .noBarrier (let t = c .before .before .before .before .before .before .before .before .before .before .before .before .loop-test .taken in omega arith)) in
     let rule = sym (c .before .before .before .before .later-ruling .ensures) ∙ ap ruleOf (c .before .before .enum-told2 .given .1) in
     let w : r .worker < a .n = worker-below file (a .count) (a .n) (a .sizes .now) _ _ i least (c .before .before .before .before .before .before .before .before .before .before .before .before .loop-test .taken) (so .eight) (inv .4) noBarrier r e rule in
+    let n = so .eight in
+    omega arith
+
+add-opened : tie.Need-add-opened Inv-loop μ-loop
+add-opened c =
+    let a = c .before .before .before .before .before .before .before .before .before .before .before .before .before .before .before .before .args in
+    let so = c .before .before .before .before .before .before .before .before .before .before .before .before .before .before .before .before .pre .1 .1 in
+    let file = a .file .now in
+    let i = c .before .before .before .before .before .before .before .before .before .before .before .before .before .before .loop .i in
+    let inv = c .before .before .before .before .before .before .before .before .before .before .before .before .before .before .loop .inv in
+    let r = c .before .before .before .before .before .before .before .before .before .before .r .given .0 .0 in
+    let e : decodedOf (recordAt file i) ≡ Read r = sym (c .before .before .before .before .before .before .before .before .before .before .before .before .decode .ensures) ∙ c .before .before .before .before .before .before .before .before .before .before .r .given .1 in
+    let least : 1 ≤ i = let l = so .least in let m = inv .0 in omega arith in
+    let noBarrier : c .before .before .before .before .before .before .before .before .before .before .before .before .before .before .loop .opened ≡ 0 → isBarrier (recordAt file i) ≡ false
+    = λ z. let at = inv .3 z in subst⁻¹ (λ (j : ℕ). isBarrier (recordAt file j) ≡ false) at (so .noBarrier (let t = c .before .before .before .before .before .before .before .before .before .before .before .before .before .loop-test .taken in omega arith)) in
+    let rule = sym (c .before .before .before .before .before .later-ruling .ensures) ∙ ap ruleOf (c .before .before .before .enum-told2 .given .1) in
+    let w : r .worker < a .n = worker-below file (a .count) (a .n) (a .sizes .now) _ _ i least (c .before .before .before .before .before .before .before .before .before .before .before .before .before .loop-test .taken) (so .eight) (inv .4) noBarrier r e rule in
     let n = so .eight in
     omega arith
 
@@ -148,30 +149,27 @@ loop-less c = search needs
 
 loop-again : tie.Need-loop-again Inv-loop μ-loop
 loop-again c =
-    let a = c .before .before .before .before .before .before .before .before .before .before .before .before .before .before .before .args in
-    let so = c .before .before .before .before .before .before .before .before .before .before .before .before .before .before .before .pre .1 .1 in
+    let a = c .before .before .before .before .before .before .before .before .before .before .before .before .before .before .before .before .args in
+    let so = c .before .before .before .before .before .before .before .before .before .before .before .before .before .before .before .before .pre .1 .1 in
     let file = a .file .now in
-    let i = c .before .before .before .before .before .before .before .before .before .before .before .before .before .loop .i in
-    let inv = c .before .before .before .before .before .before .before .before .before .before .before .before .before .loop .inv in
-    let r = c .before .before .before .before .before .before .before .before .before .r .given .0 .0 in
-    let e : decodedOf (recordAt file i) ≡ Read r = sym (c .before .before .before .before .before .before .before .before .before .before .before .decode .ensures) ∙ c .before .before .before .before .before .before .before .before .before .r .given .1 in
+    let i = c .before .before .before .before .before .before .before .before .before .before .before .before .before .before .loop .i in
+    let inv = c .before .before .before .before .before .before .before .before .before .before .before .before .before .before .loop .inv in
+    let r = c .before .before .before .before .before .before .before .before .before .before .r .given .0 .0 in
+    let e : decodedOf (recordAt file i) ≡ Read r = sym (c .before .before .before .before .before .before .before .before .before .before .before .before .decode .ensures) ∙ c .before .before .before .before .before .before .before .before .before .before .r .given .1 in
     let least : 1 ≤ i = let l = so .least in let m = inv .0 in omega arith in
-    let noBarrier : c .before .before .before .before .before .before .before .before .before .before .before .before .before .loop .opened ≡ 0 → isBarrier (recordAt file i) ≡ false
-    = λ z. let at = inv .3 z in subst⁻¹ (λ (j : ℕ). isBarrier (recordAt file j) ≡ false) at (so .noBarrier (let t = c .before .before .before .before .before .before .before .before .before .before .before .before .loop-test .taken in omega arith)) in
-    let rule = sym (c .before .before .before .before .later-ruling .ensures) ∙ ap ruleOf (c .before .before .enum-told2 .given .1) in
-    let w : r .worker < a .n = worker-below file (a .count) (a .n) (a .sizes .now) _ _ i least (c .before .before .before .before .before .before .before .before .before .before .before .before .loop-test .taken) (so .eight) (inv .4) noBarrier r e rule in
+    let noBarrier : c .before .before .before .before .before .before .before .before .before .before .before .before .before .before .loop .opened ≡ 0 → isBarrier (recordAt file i) ≡ false
+    = λ z. let at = inv .3 z in subst⁻¹ (λ (j : ℕ). isBarrier (recordAt file j) ≡ false) at (so .noBarrier (let t = c .before .before .before .before .before .before .before .before .before .before .before .before .before .loop-test .taken in omega arith)) in
+    let rule = sym (c .before .before .before .before .before .later-ruling .ensures) ∙ ap ruleOf (c .before .before .before .enum-told2 .given .1) in
+    let w : r .worker < a .n = worker-below file (a .count) (a .n) (a .sizes .now) _ _ i least (c .before .before .before .before .before .before .before .before .before .before .before .before .before .loop-test .taken) (so .eight) (inv .4) noBarrier r e rule in
     let n = so .eight in
-    let step = later-step file (a .count) (a .n) (a .sizes .now) _ _ i least (c .before .before .before .before .before .before .before .before .before .before .before .before .loop-test .taken) (so .eight) (inv .4) noBarrier r e in (
+    let step = later-step file (a .count) (a .n) (a .sizes .now) _ _ i least (c .before .before .before .before .before .before .before .before .before .before .before .before .before .loop-test .taken) (so .eight) (inv .4) noBarrier r e in (
       omega arith,
       omega arith,
       omega arith,
       λ z. absurd (omega arith),
-      step-more file (a .count) (a .n) (a .sizes .now) _ _ i least (c .before .before .before .before .before .before .before .before .before .before .before .before .loop-test .taken) (so .eight) (inv .4) noBarrier r _ e rule (c .open-workers .ensures),
+      step-more file (a .count) (a .n) (a .sizes .now) _ _ i least (c .before .before .before .before .before .before .before .before .before .before .before .before .before .loop-test .taken) (so .eight) (inv .4) noBarrier r _ e rule (c .open-workers .ensures),
       sym (step ∙ ap (λ (x : protocol.Rule). protocol.ruled x i (verdictFrom file (a .count) (i + 1))) rule) ∙ inv .5,
     )
-
-cast-open-workers-3 : tie.Need-cast-open-workers-3 Inv-loop μ-loop
-cast-open-workers-3 c = let inv = c .before .before .loop .inv in omega arith
 
 open-workers-requires-2 : tie.Need-open-workers-requires-2 Inv-loop μ-loop
 open-workers-requires-2 c κs = search needs
@@ -212,13 +210,11 @@ read-by-table-spec =
     enum-known-ruling
     returns-2
     enum-told-2
-    cast-open-workers
-    cast-open-workers-2
+    cast-worker
     open-workers-requires
     add-opened
     add-i
     loop-less
     loop-again
-    cast-open-workers-3
     open-workers-requires-2
     returns-3)
