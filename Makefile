@@ -2,7 +2,7 @@
 # make test    the gate, .ci/run: all proofs from nothing, then every test
 # make test-c  the C tests alone
 # make test-apart  the simulator's tests, and the library held against it
-# make soak, make mutants, make fuzz, make bench  what takes longer; see the end of this file
+# make soak, make mutants, make fuzz, make bench, make bench-instructions  what takes longer; see the end of this file
 # make test-listings  the listings of the plans in plans/ alone
 # make clean   removes all that is built
 #
@@ -30,7 +30,7 @@ RT_PROGRAMS = listing vectors
 PROVED = $(shell find crates -name '*.rt' -o -name '*.antt') crates.txt
 
 .PHONY: all lib header programs test test-c test-listings test-header test-readme clean $(C_TESTS:%=test-c-%) \
-    test-apart test-simulator test-differential test-hold test-hosts test-fuzz test-vectors soak mutants fuzz bench
+    test-apart test-simulator test-differential test-hold test-hosts test-fuzz test-vectors test-twin soak mutants fuzz bench bench-instructions
 
 all: lib header programs
 
@@ -111,15 +111,20 @@ test-readme: $(OUT)/readme $(OUT)/readme.expected
 
 SEED = 1
 COUNT = 250000
+TWIN_COUNT = 25000
 SECONDS = 600
 
-test-apart: test-simulator test-differential test-hold test-hosts test-fuzz test-vectors
+test-apart: test-simulator test-differential test-twin test-hold test-hosts test-fuzz test-vectors
 
 test-simulator:
 	cd simulator && cargo test --release --offline --quiet
 
 test-differential: $(LIB)
 	tests/differential.sh library --seed $(SEED) --count $(COUNT)
+
+# the C twin that the library is measured against is a correct peer
+test-twin:
+	tests/differential.sh twin --seed $(SEED) --count $(TWIN_COUNT)
 
 # the listing program beside the simulator's, on random plans
 test-hold: target/bin/listing
@@ -157,3 +162,6 @@ build/bench: $(wildcard bench/*.c bench/*.h) $(LIB)
 
 bench: build/bench
 	build/bench --passes 25 --csv build/bench.csv --svg build/bench.svg
+
+bench-instructions: build/bench
+	bench/instructions.sh build/bench build/instructions.csv
