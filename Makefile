@@ -25,7 +25,7 @@ C_TESTS = check run
 C_PROGRAMS = $(C_TESTS:%=$(OUT)/%) $(C_TESTS:%=$(OUT)/%.sanitized)
 
 # Rattle programs, which `rt check` proves and links to target/bin/NAME
-RT_PROGRAMS = listing
+RT_PROGRAMS = listing vectors
 
 PROVED = $(shell find crates -name '*.rt' -o -name '*.antt') crates.txt
 
@@ -132,8 +132,10 @@ test-hosts: $(LIB)
 test-fuzz: $(LIB)
 	tests/fuzz.sh replay
 
-test-vectors:
+# the stored plans: what is stored is the simulator's, and the program vectors prints it from them and from no others
+test-vectors: target/bin/vectors
 	tests/vectors.sh check
+	tests/vectors.sh bites $<
 
 # for as long as SECONDS says, with a seed that SEED names
 soak: $(LIB)

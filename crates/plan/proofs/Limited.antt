@@ -1,11 +1,11 @@
--- What the table's lookup told: whether the op is known, and when its operands are out of range.
-use Prim.Native.Nat.{ℕ, _≤_}
-use mathlib.Core.Bool.{true, false}
+-- What the table's row told: whether the op has a step, and when its operands are out of range.
+use Prim.Native.Nat.{ℕ, zero, suc, _<_, _≤_}
+use mathlib.Core.Bool.{Bool, true, false, not, _||_, true≢false}
 use mathlib.Core.Path.{_≡_, refl, sym, ap, _∙_}
 use mathlib.Core.Option.{Option, none, some}
 use native.Mathlib.Omega.{arith}
-use lib.Dec.{ltb}
-use borrow.Author.Tests.{ltb-false}
+use lib.Dec.{ltb, eqb}
+use borrow.Author.Tests.{lt-ltb, le-ltb, ne-eqb, ltb-false}
 use Rattle.protocol.specs.Format as format
 use Rattle.protocol.specs.Format.{rowOf, rowIn, known}
 use Rattle.protocol.specs.Refusals.{operandsOutside}
@@ -13,33 +13,50 @@ use Rattle.protocol.proofs.Records.{or-right}
 use Rattle.plan.specs.Answer.{limitsOf}
 use Rattle.plan.specs.Stepping.{outsideOf}
 use Rattle.plan.specs.declared.table.Row.{Row}
-use Rattle.plan.specs.declared.table.Limits.the-variants.{Within, Unknown}
+use Rattle.plan.proofs.Ranges.{empty-right}
 
-pub unknown : (o : ℕ) → limitsOf (rowOf o) ≡ Unknown → known o ≡ false
-unfolding known
-unknown o e = go (rowOf o) e
-  where
-    go : (x : Option format.Row) → limitsOf x ≡ Unknown → elim x [ none ↦ false | some y ↦ true ] ≡ false
-    go none q = refl
-    go (some y) q = let z : _≡_ {A = ℕ} 0 1 = cc in absurd (omega arith)
+module _ (o : ℕ) (row : Row) (small : o < 256) (e : row ≡ limitsOf (rowOf o)) where
+  known-by : (b : Bool) → ltb (row .2) (row .1) ≡ not b → known o ≡ b
+  known-by b t = not-same (known o) b (sym (empty-right o small) ∙ (ap (λ (r : Row). ltb (r .2) (r .1)) (sym e) ∙ t))
+    where
+      not-same : (a b : Bool) → not a ≡ not b → a ≡ b
+      not-same true true q = refl
+      not-same true false q = sym q
+      not-same false true q = sym q
+      not-same false false q = refl
 
-pub within : (o : ℕ) (row : Row) → limitsOf (rowOf o) ≡ Within row
-    → (known o ≡ true) × ((register number : ℕ) → operandsOutside (rowOf o) register number ≡ outsideOf row register number)
-unfolding known operandsOutside
-within o row e = go (rowOf o) e
+  pub no-step : row .2 < row .1 → known o ≡ false
+  no-step h = known-by false (lt-ltb (row .2) (row .1) h)
+
+  pub a-step : row .1 ≤ row .2 → known o ≡ true
+  a-step h = known-by true (le-ltb (row .2) (row .1) h)
+
+-- the ops of the plan record and of the barrier records have no step
+pub other-op : (o : ℕ) → known o ≡ true → (eqb o 0 ≡ false) × (eqb o 1 ≡ false)
+unfolding known rowIn
+other-op o k = (ne-eqb o 0 (λ z. true≢false (sym k ∙ ap known z)), ne-eqb o 1 (λ z. true≢false (sym k ∙ ap known z)))
+
+-- where there is no row, every operand is out of range
+pub within : (o : ℕ) (row : Row) → row ≡ limitsOf (rowOf o) → (register number : ℕ) → operandsOutside (rowOf o) register number ≡ outsideOf row register number
+unfolding operandsOutside
+within o row e register number = go (rowOf o) ∙ sym (ap (λ (r : Row). outsideOf r register number) e)
   where
-    go : (x : Option format.Row) → limitsOf x ≡ Within row
-        → (elim x [ none ↦ false | some y ↦ true ] ≡ true) × ((register number : ℕ) → operandsOutside x register number ≡ outsideOf row register number)
-    go none q = let z : _≡_ {A = ℕ} 0 1 = cc in absurd (omega arith)
-    go (some y) q =
-        let same : _≡_ {A = Row} (y .registers, y .least, y .most) row = cc in
-        (refl, λ register number. ap (λ (r : Row). outsideOf r register number) same)
+    or-last : (a b : Bool) → b ≡ true → a || b ≡ true
+    or-last true b e = refl
+    or-last false b e = e
+
+    none-inside : (k : ℕ) → ltb k 1 || ltb 0 k ≡ true
+    none-inside zero = refl
+    none-inside (suc k) = or-last (ltb (suc k) 1) (ltb 0 (suc k)) (lt-ltb 0 (suc k) (omega arith))
+
+    go : (x : Option format.Row) → operandsOutside x register number ≡ outsideOf (limitsOf x) register number
+    go none = sym (or-last (ltb 0 register) (ltb number 1 || ltb 0 number) (none-inside number))
+    go (some y) = refl
 
 -- a barrier's number is below eight
-pub barrier-inside : (o : ℕ) (row : Row) (register number : ℕ) → o ≡ 37 → limitsOf (rowOf o) ≡ Within row → outsideOf row register number ≡ false → number ≤ 7
+pub barrier-inside : (o : ℕ) (row : Row) (register number : ℕ) → o ≡ 37 → row ≡ limitsOf (rowOf o) → outsideOf row register number ≡ false → number ≤ 7
 unfolding rowIn
 barrier-inside o row register number is e f =
-    let at = ap (λ (k : ℕ). limitsOf (rowOf k)) (sym is) ∙ e in
-    let same : _≡_ {A = Row} (0, 0, 7) row = cc in
+    let same = e ∙ ap (λ (k : ℕ). limitsOf (rowOf k)) is in
     ltb-false 7 number
-    (or-right (ltb number 0) (or-right (ltb 0 register) (ap (λ (r : Row). outsideOf r register number) same ∙ f)))
+    (or-right (ltb number 0) (or-right (ltb 0 register) (ap (λ (r : Row). outsideOf r register number) (sym same) ∙ f)))

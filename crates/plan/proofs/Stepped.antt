@@ -10,17 +10,17 @@ use native.Mathlib.Numerals.{add-one}
 use native.Mathlib.Decide.{decLt}
 use lib.Dec.{leb, ltb, eqb}
 use lib.ListN.{length, getD, replicate}
-use borrow.Author.Tests.{lt-ltb, le-ltb, ltb-false, eqb-true}
+use borrow.Author.Tests.{lt-ltb, le-ltb, ltb-false, leb-false, eqb-true}
 use Rattle.protocol.specs.Format as format
 use Rattle.protocol.specs.Format.{Record, recordsFrom, rowIn, rowOf, isBarrier, isStep, workersIn, sizeIn, stepsIn, firstIn}
 use Rattle.protocol.specs.Refusals as protocol
 use Rattle.protocol.specs.Refusals.{anyOf, refuseIf, holds, ruled, operandsOutside, stepRule, barrierRule, laterRule}
-use Rattle.protocol.proofs.Records.{one, split, or-right, openedIn, names, picks, reaches, topIn-raised, sizeIn-other, first-unopened, first-one-opened, first-inside}
+use Rattle.protocol.proofs.Records.{one, split, or-left, or-right, openedIn, names, picks, reaches, topIn-raised, sizeIn-other, first-unopened, first-one-opened, first-inside}
 use Rattle.protocol.proofs.Taken.{StepTaken, later-taken, passes}
 use Rattle.protocol.proofs.Prefix.{Read, first-step}
 use Rattle.plan.specs.Answer.{bodyOf, decodedOf}
 use Rattle.plan.specs.Reading.{recordAt, before, verdictFrom}
-use Rattle.plan.specs.Stepping.{readSteps, stepRuling, laterRuling, Opened, StepsSoFar}
+use Rattle.plan.specs.Stepping.{badWorker, readSteps, stepRuling, laterRuling, Opened, StepsSoFar}
 use Rattle.plan.specs.declared.decode.Decoded.the-variants as decoded
 use Rattle.plan.proofs.Readings.{Body, before-more, length-before, told, marked-step, read-next, workers-same}
 
@@ -32,6 +32,10 @@ pub record Kept (rs : List Record) (n : ℕ) (sizes : List ℕ) (opened : ℕ) (
   pub nine : length firsts ≡ 9
   pub right : (w : ℕ) → w < opened → getD firsts w 0 ≡ firstIn rs w
   pub sizesRight : (b : ℕ) → b < 8 → getD sizes b 0 ≡ sizeIn rs b
+
+-- a worker that is taken is below n, and at most one behind those opened
+pub good-worker : (n opened w : ℕ) → badWorker n opened w ≡ false → (w < n) × (opened ≤ w + 1)
+good-worker n opened w e = (leb-false n w (or-left (leb n w) (ltb (w + 1) opened) e), ltb-false (w + 1) opened (or-right (leb n w) e))
 
 -- two rules with the same test, and the same to follow where it fails
 same-if : (a b : Bool) (f : protocol.Refusal) (x y : protocol.Rule) → a ≡ b → (b ≡ false → x ≡ y) → refuseIf a f x ≡ refuseIf b f y
@@ -79,13 +83,13 @@ module _ (rs : List Record) (n : ℕ) (sizes : List ℕ) (opened : ℕ) (firsts 
   unfolding stepRule
   step-ruled r =
       same-if (not (format.known (r .op))) (not (format.known (r .op))) protocol.badOp _ _ refl (λ _.
-      same-if _ (leb n (r .worker) || ltb (r .worker + 1) opened) protocol.badWorker _ _ falls (λ e.
+      same-if _ (badWorker n opened (r .worker)) protocol.badWorker _ _ falls (λ e.
       same-if (leb 128 (length (stepsIn rs (r .worker)))) (leb 128 (readSteps firsts opened (r .worker) (length rs))) protocol.tooManySteps _ _
-      (ap (λ (j : ℕ). leb 128 j) (read-steps (r .worker) (let h = ltb-false (r .worker + 1) opened (or-right (leb n (r .worker)) e) in omega arith))) (λ _.
+      (ap (λ (j : ℕ). leb 128 j) (read-steps (r .worker) (let h = good-worker n opened (r .worker) e .1 in omega arith))) (λ _.
       same-if (operandsOutside (rowOf (r .op)) (r .register) (r .number)) (operandsOutside (rowOf (r .op)) (r .register) (r .number)) protocol.badOperand _ _ refl (λ e.
       same-if _ (eqb (r .op) 37 && eqb (getD sizes (r .number) 0) 0) protocol.noSize holds holds (unsized r e) (λ _. refl)))))
     where
-      falls : leb (workersIn rs) (r .worker) || anyOf (λ q. isStep q && ltb (r .worker) (q .worker)) rs ≡ leb n (r .worker) || ltb (r .worker + 1) opened
+      falls : leb (workersIn rs) (r .worker) || anyOf (λ q. isStep q && ltb (r .worker) (q .worker)) rs ≡ badWorker n opened (r .worker)
       falls =
           ap (λ (m : ℕ). leb m (r .worker) || anyOf (λ q. isStep q && ltb (r .worker) (q .worker)) rs) (k .workers)
           ∙ ap (λ (b : Bool). leb n (r .worker) || b)

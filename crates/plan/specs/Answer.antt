@@ -1,9 +1,11 @@
 -- The code's enums and structs as the protocol's definitions have them.
-use Prim.Native.Nat.{ℕ, _≤_}
+use Prim.Native.Nat.{ℕ, _<_, _≤_}
 use mathlib.Core.Bool.{cond}
 use mathlib.Core.Path.{_≡_}
+use mathlib.Core.List.{List}
 use mathlib.Core.Option.{Option, none, some}
-use lib.Dec.{eqb}
+use lib.Dec.{ltb, eqb}
+use lib.ListN.{getD}
 use Rattle.protocol.specs.Format as format
 use Rattle.protocol.specs.Refusals as protocol
 use Rattle.plan.specs.declared.answer.Refusal.{Refusal}
@@ -15,8 +17,7 @@ use Rattle.plan.specs.declared.answer.Verdict.the-variants.{Accepted, Re
 use Rattle.plan.specs.declared.decode.Record.{Record}
 use Rattle.plan.specs.declared.decode.Decoded.{Decoded}
 use Rattle.plan.specs.declared.decode.Decoded.the-variants.{Read, Unmarked}
-use Rattle.plan.specs.declared.table.Limits.{Limits}
-use Rattle.plan.specs.declared.table.Limits.the-variants.{Within, Unknown}
+use Rattle.plan.specs.declared.table.Row.{Row}
 
 abbrev pub refusalOf : Refusal → protocol.Refusal
 refusalOf refusal.BadLength = protocol.badLength
@@ -48,10 +49,17 @@ bodyOf r = record { worker = r .worker; op = r .op; register = r .register; numb
 abbrev pub decodedOf : format.Record → Decoded
 decodedOf r = cond (eqb (r .mark) format.planMark) (Read (bodyOf r)) Unmarked
 
--- the row's limits alone
-abbrev pub limitsOf : Option format.Row → Limits
-limitsOf none = Unknown
-limitsOf (some x) = Within (x .registers, x .least, x .most)
+-- the row's limits alone; where there is no row, limits that no number is in
+abbrev pub limitsOf : Option format.Row → Row
+limitsOf none = (0, 1, 0)
+limitsOf (some x) = (x .registers, x .least, x .most)
+
+-- where the code's table has the row of an op
+abbrev pub placeOf : ℕ → ℕ
+placeOf op = cond (ltb 38 op) 0 op
+
+abbrev pub RowsRight : List Row → Type 0
+RowsRight rows = (op : ℕ) → op < 256 → getD {A = Row} rows (placeOf op) (0, 0, 0) ≡ limitsOf (format.rowOf op)
 
 -- the index is that of a record
 abbrev pub Indexed : Verdict → Type 0

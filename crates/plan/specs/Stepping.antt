@@ -3,6 +3,7 @@ use Prim.Native.Nat.{ℕ, _+_, _-_, _<_, _≤_}
 use mathlib.Core.Bool.{Bool, false, cond, not, _&&_, _||_}
 use mathlib.Core.Path.{_≡_}
 use mathlib.Core.List.{List}
+use mathlib.Core.Option.{some}
 use lib.Dec.{leb, ltb, eqb}
 use lib.ListN.{length, getD}
 use Rattle.protocol.specs.Format as format
@@ -20,6 +21,10 @@ use Rattle.plan.specs.declared.table.Row.{Row}
 abbrev pub outsideOf : Row → ℕ → ℕ → Bool
 outsideOf row register number = ltb (row .0) register || (ltb number (row .1) || ltb (row .2) number)
 
+-- a worker not below n, or that falls behind the last opened
+abbrev pub badWorker : ℕ → ℕ → ℕ → Bool
+badWorker n opened worker = leb n worker || ltb (worker + 1) opened
+
 -- a worker that is opened has steps from its first up to record i
 abbrev pub readSteps : List ℕ → ℕ → ℕ → ℕ → ℕ
 readSteps firsts opened worker i = cond (ltb worker opened) (i - getD firsts worker 0) 0
@@ -28,10 +33,14 @@ readSteps firsts opened worker i = cond (ltb worker opened) (i - getD firsts wor
 abbrev pub stepRuling : ℕ → ℕ → List ℕ → List ℕ → ℕ → Record → protocol.Rule
 stepRuling n opened sizes firsts i r =
     refuseIf (not (format.known (r .op))) protocol.badOp
-    (refuseIf (leb n (r .worker) || ltb (r .worker + 1) opened) protocol.badWorker
+    (refuseIf (badWorker n opened (r .worker)) protocol.badWorker
     (refuseIf (leb 128 (readSteps firsts opened (r .worker) i)) protocol.tooManySteps
     (refuseIf (protocol.operandsOutside (format.rowOf (r .op)) (r .register) (r .number)) protocol.badOperand
     (refuseIf (eqb (r .op) 37 && eqb (getD sizes (r .number) 0) 0) protocol.noSize holds))))
+
+-- the rule of an op without a step
+abbrev pub noStepRuling : ℕ → protocol.Rule
+noStepRuling op = refuseIf (eqb op 0) protocol.badPlan (refuseIf (eqb op 1) protocol.badBarrier (some protocol.badOp))
 
 abbrev pub laterRuling : ℕ → ℕ → List ℕ → List ℕ → ℕ → Record → protocol.Rule
 laterRuling n opened sizes firsts i r =

@@ -5,14 +5,16 @@ use crate::answer::Verdict;
 use crate::decode::Decoded;
 use crate::decode::Record;
 use crate::decode::decode;
-use crate::table::Limits;
+use crate::table::ROWS;
 use crate::table::Row;
-use crate::table::limits_of;
+use crate::table::place;
 ghost use mathlib.Core.Path.{_≡_};
+ghost use mathlib.Core.Bool.{true};
 ghost use Prim.Native.Nat.{ℕ, _+_, _*_, _≤_, _<_};
 ghost use lib.ListN.{length, getD};
-ghost use Rattle.plan.specs.Answer.{ruleOf};
-ghost use Rattle.plan.specs.Stepping.{outsideOf, readSteps, stepRuling, laterRuling, StepsSoFar, Opened, StepsRead};
+ghost use Rattle.protocol.specs.Format.{rowOf, known};
+ghost use Rattle.plan.specs.Answer.{ruleOf, limitsOf, RowsRight};
+ghost use Rattle.plan.specs.Stepping.{outsideOf, badWorker, readSteps, noStepRuling, stepRuling, laterRuling, StepsSoFar, Opened, StepsRead};
 
 // The index of each worker's first step; that of worker `n` is behind the last.
 pub struct Steps {
@@ -23,7 +25,7 @@ pub struct Steps {
 fn outside(row: Row, register: u8, number: u16) -> bool
     ensures { λ b. ⌜ b ≡ outsideOf row register number ⌝ }
 {
-    if row.0 < register {
+    if row.0 < register as u16 {
         return true;
     }
     if number < row.1 {
@@ -32,42 +34,68 @@ fn outside(row: Row, register: u8, number: u16) -> bool
     row.2 < number
 }
 
-// How many steps of a worker have been read, at record i: the last worker's steps reach up to it.
-fn steps_read(firsts: &[usize; 9], opened: u8, worker: u8, i: usize) -> usize
+// Whether a worker is not below n, or falls. The last opened, whose steps most records are, is tested first.
+fn bad_worker(worker: usize, n: usize, opened: usize) -> bool
+    requires { ⌜ worker < 256 ⌝ }
+    requires { ⌜ opened ≤ n ⌝ }
+    ensures { λ b. ⌜ b ≡ badWorker n opened worker ⌝ }
+{
+    if worker + 1 == opened {
+        return false;
+    }
+    if n <= worker {
+        return true;
+    }
+    worker < opened
+}
+
+// How many steps of a worker that does not fall have been read, at record i: the last worker's steps reach up to it.
+fn steps_read(firsts: &[usize; 9], opened: usize, worker: usize, i: usize) -> usize
     requires { ⌜ worker < 9 ⌝ }
+    requires { ⌜ opened ≤ worker + 1 ⌝ }
     requires { ⌜ (worker < opened → getD (now firsts) worker 0 ≤ i) ⌝ }
     ensures { λ r. ⌜ r ≡ readSteps (now (firsts .entry)) opened worker i ⌝ }
 {
-    if worker < opened {
-        let at = worker as usize;
-        return i - firsts[at];
+    if worker + 1 == opened {
+        return i - firsts[worker];
     }
     0
 }
 
-// The rule of a step record.
+// The rule of a record behind the barrier records whose op has no step.
+fn no_step_ruling(op: u8) -> Ruling
+    ensures { λ s. ⌜ ruleOf s ≡ noStepRuling op ⌝ }
+{
+    if op == 0 {
+        return Ruling::Refuses(Refusal::BadPlan);
+    }
+    if op == 1 {
+        return Ruling::Refuses(Refusal::BadBarrier);
+    }
+    Ruling::Refuses(Refusal::BadOp)
+}
+
+// The rule of a step record, whose op has the row.
 fn step_ruling(
+    row: Row,
     r: Record,
-    n: u8,
-    opened: u8,
+    n: usize,
+    opened: usize,
     sizes: &[u8; 8],
     firsts: &[usize; 9],
     i: usize,
 ) -> Ruling
+    requires { ⌜ row ≡ limitsOf (rowOf (r .op)) ⌝ }
+    requires { ⌜ known (r .op) ≡ true ⌝ }
     requires { ⌜ n ≤ 8 ⌝ }
+    requires { ⌜ opened ≤ n ⌝ }
     requires { ⌜ ((w : ℕ) → w < opened → getD (now firsts) w 0 ≤ i) ⌝ }
     ensures { λ s. ⌜ ruleOf s ≡ stepRuling n opened (now (sizes .entry)) (now (firsts .entry)) i r ⌝ }
 {
     let op = r.op;
-    let worker = r.worker;
+    let worker = r.worker as usize;
     let number = r.number;
-    let Limits::Within(row) = limits_of(op) else {
-        return Ruling::Refuses(Refusal::BadOp);
-    };
-    if n <= worker {
-        return Ruling::Refuses(Refusal::BadWorker);
-    }
-    if worker + 1 < opened {
+    if bad_worker(worker, n, opened) {
         return Ruling::Refuses(Refusal::BadWorker);
     }
     if 128 <= steps_read(firsts, opened, worker, i) {
@@ -86,27 +114,26 @@ fn step_ruling(
     Ruling::Holds
 }
 
-// The rule of a record behind the barrier records.
+// The rule of a record behind the barrier records, whose op has the row.
 fn later_ruling(
+    row: Row,
     r: Record,
-    n: u8,
-    opened: u8,
+    n: usize,
+    opened: usize,
     sizes: &[u8; 8],
     firsts: &[usize; 9],
     i: usize,
 ) -> Ruling
+    requires { ⌜ row ≡ limitsOf (rowOf (r .op)) ⌝ }
     requires { ⌜ n ≤ 8 ⌝ }
+    requires { ⌜ opened ≤ n ⌝ }
     requires { ⌜ ((w : ℕ) → w < opened → getD (now firsts) w 0 ≤ i) ⌝ }
     ensures { λ s. ⌜ ruleOf s ≡ laterRuling n opened (now (sizes .entry)) (now (firsts .entry)) i r ⌝ }
 {
-    let op = r.op;
-    if op == 0 {
-        return Ruling::Refuses(Refusal::BadPlan);
+    if row.2 < row.1 {
+        return no_step_ruling(r.op);
     }
-    if op == 1 {
-        return Ruling::Refuses(Refusal::BadBarrier);
-    }
-    step_ruling(r, n, opened, sizes, firsts, i)
+    step_ruling(row, r, n, opened, sizes, firsts, i)
 }
 
 // The steps of the workers from `opened` up to `worker` begin at record i.
@@ -121,14 +148,22 @@ fn open_workers(firsts: &mut [usize; 9], opened: usize, worker: usize, i: usize)
     }
 }
 
-// Reads the records from `start` on, which are the steps.
-pub fn read_steps(file: &[u8], count: usize, n: u8, sizes: &[u8; 8], start: usize) -> Steps
+// Reads the records from `start` on, which are the steps, by the table.
+fn read_by_table(
+    rows: [Row; 39],
+    file: &[u8],
+    count: usize,
+    n: usize,
+    sizes: &[u8; 8],
+    start: usize,
+) -> Steps
+    requires { ⌜ RowsRight rows ⌝ }
     requires { ⌜ 7 * count ≤ length (now file) ⌝ }
     requires { ⌜ StepsSoFar (now file) count n (now sizes) start ⌝ }
     ensures { λ r. ⌜ StepsRead (now (file .entry)) count (now (sizes .entry)) start r ⌝ }
 {
     let mut firsts = [0usize; 9];
-    let mut opened = 0u8;
+    let mut opened = 0usize;
     let mut i = start;
     while i < count {
         let Decoded::Read(r) = decode(file, 7 * i) else {
@@ -137,21 +172,33 @@ pub fn read_steps(file: &[u8], count: usize, n: u8, sizes: &[u8; 8], start: usiz
                 firsts,
             };
         };
-        let ruling = later_ruling(r, n, opened, sizes, &firsts, i);
+        let at = place(r.op);
+        let row = rows[at];
+        let ruling = later_ruling(row, r, n, opened, sizes, &firsts, i);
         if let Ruling::Refuses(f) = ruling {
             return Steps {
                 verdict: Verdict::Refused(f, i),
                 firsts,
             };
         }
-        let worker = r.worker;
-        open_workers(&mut firsts, opened as usize, worker as usize, i);
+        let worker = r.worker as usize;
+        open_workers(&mut firsts, opened, worker, i);
         opened = worker + 1;
         i += 1;
     }
-    open_workers(&mut firsts, opened as usize, 8, count);
+    open_workers(&mut firsts, opened, 8, count);
     Steps {
         verdict: Verdict::Accepted,
         firsts,
     }
+}
+
+// Reads the records from `start` on, which are the steps.
+pub fn read_steps(file: &[u8], count: usize, n: u8, sizes: &[u8; 8], start: usize) -> Steps
+    requires { ⌜ 7 * count ≤ length (now file) ⌝ }
+    requires { ⌜ StepsSoFar (now file) count n (now sizes) start ⌝ }
+    ensures { λ r. ⌜ StepsRead (now (file .entry)) count (now (sizes .entry)) start r ⌝ }
+{
+    let rows = ROWS;
+    read_by_table(rows, file, count, n as usize, sizes, start)
 }

@@ -1,18 +1,32 @@
 // The operand ranges: one row per op.
 ghost use mathlib.Core.Path.{_≡_};
-ghost use Rattle.protocol.specs.Format.{rowOf};
-ghost use Rattle.plan.specs.Answer.{limitsOf};
+ghost use Prim.Native.Nat.{_<_};
+ghost use Rattle.plan.specs.Answer.{placeOf};
 
 // The largest register, and the smallest and the largest number.
-pub struct Row(pub u8, pub u16, pub u16);
+pub struct Row(pub u16, pub u16, pub u16);
 
-pub enum Limits {
-    Within(Row),
-    Unknown,
-}
+// No step has this op: no number is in the row.
+const NONE: Row = Row(0, 1, 0);
 
-// The rows of ops 16 to 22, then those of 32 to 38.
-const ROWS: [Row; 14] = [
+// The row of op k is at place k.
+pub const ROWS: [Row; 39] = [
+    NONE,
+    NONE,
+    NONE,
+    NONE,
+    NONE,
+    NONE,
+    NONE,
+    NONE,
+    NONE,
+    NONE,
+    NONE,
+    NONE,
+    NONE,
+    NONE,
+    NONE,
+    NONE,
     Row(3, 0, 65535),
     Row(3, 0, 2046),
     Row(3, 0, 2046),
@@ -20,6 +34,15 @@ const ROWS: [Row; 14] = [
     Row(3, 0, 3),
     Row(3, 1, 127),
     Row(3, 1, 127),
+    NONE,
+    NONE,
+    NONE,
+    NONE,
+    NONE,
+    NONE,
+    NONE,
+    NONE,
+    NONE,
     Row(0, 0, 15),
     Row(0, 0, 15),
     Row(0, 0, 7),
@@ -29,24 +52,13 @@ const ROWS: [Row; 14] = [
     Row(0, 0, 0),
 ];
 
-// The row of an op, where it has one.
-pub fn limits_of(op: u8) -> Limits
-    ensures { λ r. ⌜ r ≡ limitsOf (rowOf op) ⌝ }
+// The place of an op's row; above the last op, that of an op without a step.
+pub fn place(op: u8) -> usize
+    ensures { λ r. ⌜ r ≡ placeOf op ⌝ }
+    ensures { λ r. ⌜ r < 39 ⌝ }
 {
-    let rows = ROWS;
-    if op < 16 {
-        return Limits::Unknown;
+    if 38 < op {
+        return 0;
     }
-    if op <= 22 {
-        let at = (op - 16) as usize;
-        return Limits::Within(rows[at]);
-    }
-    if op < 32 {
-        return Limits::Unknown;
-    }
-    if op <= 38 {
-        let at = (op - 25) as usize;
-        return Limits::Within(rows[at]);
-    }
-    Limits::Unknown
+    op as usize
 }

@@ -36,7 +36,7 @@ module _ (file turns : List ℕ) (b : Buffers) where
   pub passed : decided ≡ 0 → Passed (misfit b) (check file) (namesNobody (workersOf (planOf file)) turns)
   passed = tests-passed (misfit b) (ltb turnLimit (length turns)) (namesNobody (workersOf (planOf file)) turns) (check file)
 
-  returned-code : run file turns b .returned ≡ decided
+  pub returned-code : run file turns b .returned ≡ decided
   unfolding run runVerdict
   returned-code = go (runVerdict file turns b)
     where

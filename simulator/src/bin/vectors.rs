@@ -3,16 +3,20 @@
 //! `vectors DATA TEXT [--seed N]`. DATA is the count of plans and then, for
 //! each, the length of its file and its bytes; count and lengths are two
 //! bytes, low byte first. TEXT has for each plan a line `plan K`, counted
-//! from 0, and behind it the plan's listing. The program ends with 1 and
-//! writes nothing if an op, a refusal of a file or an outcome is missing.
+//! from 0, behind it the plan's listing and, for an accepted plan, a line
+//! `memory S`: the sum over all addresses of (address + 1) × the byte that
+//! the run leaves there. The program ends with 1 and writes nothing if an op,
+//! a refusal of a file, a rule with its outcome, an end or a fate is missing.
 
 use std::collections::BTreeSet;
 use std::process::ExitCode;
 use std::{env, fs};
 
-use simulator::generate::damage::{border_files, fault_pairs, single_faults};
+use simulator::generate::damage::{
+    barrier_damages, border_files, fault_pairs, faults, single_faults, Fault, Field,
+};
 use simulator::generate::{damaged_files, plan, showcase, Draft, PlanKind, Rng};
-use simulator::listing::listing_turns;
+use simulator::listing::{listing_turns, play_listed};
 use simulator::{check, check_code, listing, Machine};
 
 fn main() -> ExitCode {
@@ -47,17 +51,33 @@ fn write_all(words: &[String]) -> Result<usize, String> {
 }
 
 fn framed(files: &[Vec<u8>]) -> Vec<u8> {
-    let mut bytes = (files.len() as u16).to_le_bytes().to_vec();
+    let two_bytes = |number: usize| u16::try_from(number).expect("a number of two bytes");
+    let mut bytes = two_bytes(files.len()).to_le_bytes().to_vec();
     for file in files {
-        bytes.extend((file.len() as u16).to_le_bytes());
+        bytes.extend(two_bytes(file.len()).to_le_bytes());
         bytes.extend(file);
     }
     bytes
 }
 
 fn told(files: &[Vec<u8>]) -> String {
-    let each = |(number, file): (usize, &Vec<u8>)| format!("plan {number}\n{}", listing(file));
+    let each = |(number, file): (usize, &Vec<u8>)| {
+        format!("plan {number}\n{}{}", listing(file), memory_line(file))
+    };
     files.iter().enumerate().map(each).collect()
+}
+
+/// The line on the memory that a file leaves; nothing for a refused file.
+fn memory_line(file: &[u8]) -> String {
+    match play_listed(file) {
+        Ok(outcome) => format!("memory {}\n", memory_sum(&outcome.memory)),
+        Err(_) => String::new(),
+    }
+}
+
+fn memory_sum(memory: &[u8]) -> u64 {
+    let bytes = memory.iter().map(|&byte| u64::from(byte));
+    bytes.zip(1..).map(|(byte, place)| place * byte).sum()
 }
 
 /// The paper's cases, the borders, runs of every kind, refused files.
@@ -77,27 +97,41 @@ fn files(rng: &mut Rng) -> Vec<Vec<u8>> {
 
 type Row<'a> = &'a [(u8, u8, u16)];
 
-/// Cases 1 to 9 that start from zero memory, in the paper's order.
+/// Cases 1 to 9 in the paper's order, case 3 with its starting memory stored
+/// in front of a barrier. Then case 9 with a broadcast in place of its signal,
+/// and two waiting workers with one broadcast and with two signals.
 fn cases() -> Vec<Vec<u8>> {
     let adds: Row = &[(17, 0, 0), (16, 1, 1), (19, 0, 1), (18, 0, 0)];
     let locked = [&[(32, 0, 0)][..], adds, &[(33, 0, 0)]].concat();
     let waits: Row = &[(32, 0, 0), (34, 0, 0), (33, 0, 0)];
     let signals: Row = &[(32, 0, 0), (35, 0, 0), (33, 0, 0)];
+    let broadcasts: Row = &[(32, 0, 0), (36, 0, 0), (33, 0, 0)];
     let race: [Row; 2] = [
         &[(17, 0, 2), (22, 0, 2), (16, 1, 1), (18, 1, 0)],
         &[(17, 0, 0), (22, 0, 2), (16, 1, 1), (18, 1, 2)],
     ];
     let stores: [Row; 2] = [&[(16, 0, 256), (18, 0, 0)], &[(16, 0, 1), (18, 0, 0)]];
+    let five: Row = &[(16, 0, 5), (18, 0, 0)];
+    let seven: Row = &[(16, 0, 7), (18, 0, 0)];
+    let meets: Row = &[(37, 0, 0)];
     let none: &[(u8, u16)] = &[];
+    let pair: &[(u8, u16)] = &[(0, 2)];
     let plans = [
         Draft::from_rows(none, &race),
         Draft::from_rows(none, &stores),
+        Draft::from_rows(
+            pair,
+            &[&[five, meets, seven].concat(), &[meets, five].concat()],
+        ),
         Draft::from_rows(none, &[&locked, &locked]),
         Draft::from_rows(none, &[adds, adds]),
         Draft::from_rows(none, &[&waits[..2]]),
         Draft::from_rows(none, &[&[(16, 0, 9), (18, 0, 0), (33, 0, 0)]]),
-        Draft::from_rows(&[(0, 2)], &[&[(37, 0, 0)], &[(37, 0, 0)]]),
+        Draft::from_rows(pair, &[meets, meets]),
         Draft::from_rows(none, &[waits, signals]),
+        Draft::from_rows(none, &[waits, broadcasts]),
+        Draft::from_rows(none, &[waits, waits, broadcasts]),
+        Draft::from_rows(none, &[waits, waits, &[signals, signals].concat()]),
     ];
     plans.iter().map(Draft::file).collect()
 }
@@ -127,7 +161,42 @@ fn borders(rng: &mut Rng) -> Vec<Vec<u8>> {
     files
 }
 
-/// Refused files: each field of each kind of record, two faults at once, and
+/// A file for every worker, register and number, and every barrier record,
+/// that a plan with each op may not have. Last a skip too far, which the fault
+/// behind it comes before.
+fn refused_operands() -> Vec<Vec<u8>> {
+    let own: Row = &[
+        (16, 0, 1),
+        (17, 1, 2_046),
+        (18, 2, 255),
+        (19, 3, 0),
+        (20, 0, 3),
+        (21, 1, 2),
+        (22, 2, 1),
+    ];
+    let synchronising: Row = &[
+        (32, 0, 15),
+        (34, 0, 7),
+        (33, 0, 0),
+        (35, 0, 7),
+        (36, 0, 0),
+        (37, 0, 4),
+        (38, 0, 0),
+    ];
+    let every_op = Draft::from_rows(&[(1, 2), (4, 8)], &[own, synchronising]);
+    let in_operand =
+        |fault: &Fault| matches!(fault.field, Field::Worker | Field::Register | Field::Number);
+    let all = faults(&every_op).into_iter().zip(single_faults(&every_op));
+    let operands = all
+        .filter(|(fault, _)| in_operand(fault))
+        .map(|each| each.1);
+    let damaged = operands.chain(barrier_damages(&every_op));
+    let mut files: Vec<Vec<u8>> = damaged.map(|each| each.file).collect();
+    files.push(Draft::from_rows(&[], &[&[(16, 0, 0), (21, 0, 127), (16, 4, 0)]]).file());
+    files
+}
+
+/// Refused files: any field of any kind of record, two faults at once, and
 /// the other ways of damage.
 fn refused(rng: &mut Rng) -> Vec<Vec<u8>> {
     let small = Draft::from_rows(
@@ -145,6 +214,7 @@ fn refused(rng: &mut Rng) -> Vec<Vec<u8>> {
     let bytes = |all: Vec<simulator::generate::Damaged>| -> Vec<Vec<u8>> {
         all.into_iter().map(|each| each.file).collect()
     };
+    files.extend(refused_operands());
     files.extend(picked(80, bytes(single_faults(&small)), rng));
     files.extend(picked(40, bytes(fault_pairs(&small)), rng));
     let others = bytes(damaged_files(rng, 60));
@@ -158,53 +228,95 @@ fn refused(rng: &mut Rng) -> Vec<Vec<u8>> {
     files
 }
 
-/// Every op executed, every refusal of a file, every end and every outcome.
-fn nothing_missing(files: &[Vec<u8>]) -> Result<(), String> {
-    let mut counts = simulator::Counts::default();
-    let mut answers = BTreeSet::new();
-    let mut outcomes = BTreeSet::new();
-    let mut ends = BTreeSet::new();
-    for file in files {
-        answers.insert(check_code(file) % 256);
-        let Ok(plan) = check(file) else { continue };
+/// What came up over all files.
+#[derive(Default)]
+struct Seen {
+    counts: simulator::Counts,
+    answers: BTreeSet<u32>,
+    rules: BTreeSet<Rule>,
+    ends: BTreeSet<u8>,
+    fates: BTreeSet<u8>,
+}
+
+impl Seen {
+    fn add(&mut self, file: &[u8]) {
+        self.answers.insert(check_code(file) % 256);
+        let Ok(plan) = check(file) else { return };
         let mut machine = Machine::new(&plan, &[0; 2_048]);
         for turn in listing_turns(&plan) {
             machine.turn(usize::from(turn));
         }
-        counts.add(machine.counts());
+        self.counts.add(machine.counts());
         let outcome = machine.outcome();
-        ends.insert(outcome.end());
-        for record in outcome.log.chunks_exact(8) {
-            outcomes.insert((record[5], record[7]));
-        }
+        self.ends.insert(outcome.end());
+        self.fates.extend(&outcome.report[8..]);
+        self.rules.extend(rules(&outcome.log));
     }
-    if let Some((name, _)) = counts.rows().iter().find(|(_, count)| *count == 0) {
-        return Err(format!("never came up: {name}"));
-    }
-    if answers != (0..=10).collect() || ends != BTreeSet::from([1, 2]) {
-        return Err(format!("answers {answers:?}, ends {ends:?}"));
-    }
-    let missing = WANTED.iter().find(|pair| !outcomes.contains(pair));
-    missing.map_or(Ok(()), |pair| Err(format!("no outcome {pair:?}")))
 }
 
-/// An op and an outcome that some plan must have.
-const WANTED: [(u8, u8); 17] = [
-    (32, 1),
-    (32, 2),
-    (33, 0),
-    (33, 1),
-    (33, 254),
-    (34, 254),
-    (34, 255),
-    (35, 0),
-    (35, 255),
-    (36, 0),
-    (36, 255),
-    (37, 0),
-    (37, 1),
-    (37, 2),
-    (37, 254),
-    (38, 254),
-    (38, 255),
+/// A rule as a log record shows it: the op, whether the worker held a lock
+/// before, and the outcome, whoever was woken being 0.
+type Rule = (u8, bool, u8);
+
+fn rules(log: &[u8]) -> Vec<Rule> {
+    let mut held = [0_u8; 8];
+    let each = |record: &[u8]| {
+        let (worker, op, outcome) = (usize::from(record[4]), record[5], record[7]);
+        let held_one = held[worker] > 0;
+        if op == 32 || op == 33 {
+            held[worker] = outcome;
+        }
+        let woke = (op == 35 || op == 36) && outcome < 8;
+        (op, held_one, if woke { 0 } else { outcome })
+    };
+    log.chunks_exact(8).map(each).collect()
+}
+
+/// Every op executed, every refusal of a file, every rule with its outcomes,
+/// every end and every fate that a plan that has ended can have.
+fn nothing_missing(files: &[Vec<u8>]) -> Result<(), String> {
+    let mut seen = Seen::default();
+    for file in files {
+        seen.add(file);
+    }
+    let counts = seen.counts.rows();
+    if let Some((name, _)) = counts.iter().find(|(_, count)| *count == 0) {
+        return Err(format!("never came up: {name}"));
+    }
+    if seen.answers != (0..=10).collect() {
+        return Err(format!("answers {:?}", seen.answers));
+    }
+    if seen.ends != BTreeSet::from([1, 2]) {
+        return Err(format!("ends {:?}", seen.ends));
+    }
+    if seen.fates != BTreeSet::from([1, 2, 3, 4, 255]) {
+        return Err(format!("fates {:?}", seen.fates));
+    }
+    let missing = WANTED.iter().find(|rule| !seen.rules.contains(rule));
+    missing.map_or(Ok(()), |rule| Err(format!("no record {rule:?}")))
+}
+
+/// What some plan must show.
+const WANTED: [Rule; 21] = [
+    (32, false, 1),
+    (32, true, 2),
+    (33, true, 0),
+    (33, true, 1),
+    (33, false, 254),
+    (34, true, 255),
+    (34, false, 254),
+    (35, false, 0),
+    (35, true, 0),
+    (35, false, 255),
+    (35, true, 255),
+    (36, false, 0),
+    (36, true, 0),
+    (36, false, 255),
+    (36, true, 255),
+    (37, false, 0),
+    (37, false, 1),
+    (37, false, 2),
+    (37, true, 254),
+    (38, false, 255),
+    (38, true, 254),
 ];

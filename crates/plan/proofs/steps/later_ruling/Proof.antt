@@ -1,19 +1,24 @@
 use borrow.Author.Needs.{needs}
-use borrow.Author.Tests.{eq-eqb, ne-eqb}
+use native.Mathlib.Omega.{arith}
+use Rattle.plan.proofs.Limited.{no-step, a-step, other-op}
 use Rattle.plan.proofs.steps.later_ruling.Statement.{statement}
 use Rattle.plan.proofs.steps.later_ruling.Tie as tie
 
-returns : tie.Need-returns
-returns c = simp (eq-eqb _ _ (c .if1 .taken))
+no-step-ruling-requires : tie.Need-no-step-ruling-requires
+no-step-ruling-requires c κs = search needs
 
-returns-2 : tie.Need-returns-2
-returns-2 c = simp (ne-eqb _ _ (c .before .if1 .left), eq-eqb _ _ (c .if2 .taken))
+returns : tie.Need-returns
+returns c = simp (no-step (c .before .before .before .args .r .op) _ (omega arith) (c .before .before .before .pre .0) (c .before .if1 .taken)) (c .no-step-ruling .ensures)
 
 step-ruling-requires : tie.Need-step-ruling-requires
-step-ruling-requires c κs = search needs
+step-ruling-requires c κs =
+    let pre = c .before .before .pre in
+    (pre .0, (a-step (c .before .before .args .r .op) _ (omega arith) (pre .0) (c .if1 .left), pre .1))
 
-returns-3 : tie.Need-returns-3
-returns-3 c = simp (ne-eqb _ _ (c .before .before .if1 .left), ne-eqb _ _ (c .before .if2 .left)) (c .step-ruling .ensures)
+returns-2 : tie.Need-returns-2
+returns-2 c =
+    let k = a-step (c .before .before .before .args .r .op) _ (omega arith) (c .before .before .before .pre .0) (c .before .if1 .left) in
+    simp (other-op _ k .0, other-op _ k .1) (c .step-ruling .ensures)
 
 pub later-ruling-spec : {M : Type 1} → statement M
-later-ruling-spec = tie.close (tie.spec returns returns-2 step-ruling-requires returns-3)
+later-ruling-spec = tie.close (tie.spec no-step-ruling-requires returns step-ruling-requires returns-2)

@@ -1,0 +1,26 @@
+-- Document 01, case 1: how many turns the listing program feeds a plan, and what it lists.
+use Prim.Native.Nat.{ℕ, _+_, _*_}
+use mathlib.Core.Path.{_≡_}
+use mathlib.Core.List.{List}
+use lib.ListN.{getD, replicate}
+use Rattle.protocol.specs.Format.{planOf}
+use Rattle.protocol.specs.Rounds.{State}
+use Rattle.protocol.specs.RoundRun.{roundRun}
+use Rattle.protocol.specs.Report.{reportBytes}
+use Rattle.protocol.specs.Calls.{memorySize, checkCode, lentLog}
+
+-- how many turns these are
+abbrev pub turnCount : ℕ → ℕ → ℕ
+turnCount steps n = 2 * (steps + n) * n
+
+-- the round-by-round run from zero memory
+abbrev pub listedRun : List ℕ → State
+listedRun file = roundRun (planOf file) (replicate memorySize 0)
+
+-- what is returned, and what an accepted plan leaves: memory, log and report of the round-by-round run, which has ended
+pub record Listed (file : List ℕ) (r : ℕ) (memory log report : List ℕ) : Type 0 where
+  pub code : r ≡ checkCode file
+  pub sameMemory : r ≡ 0 → memory ≡ listedRun file .memory
+  pub sameLog : r ≡ 0 → log ≡ lentLog (listedRun file)
+  pub sameReport : r ≡ 0 → report ≡ reportBytes (listedRun file)
+  pub ended : r ≡ 0 → getD report 0 0 ≡ 0 → ⊥

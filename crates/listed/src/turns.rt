@@ -1,0 +1,54 @@
+// The turns that a plan is listed with: 2 × (steps + n) cycles of 0 .. n − 1.
+use plan::answer::Verdict;
+use plan::check::check;
+ghost use mathlib.Core.Path.{_≡_};
+ghost use Prim.Native.Nat.{ℕ, _*_, _+_, _%_, _≤_, _<_};
+ghost use lib.ListN.{length, getD, take};
+ghost use Rattle.protocol.specs.Format.{planOf};
+ghost use Rattle.protocol.specs.Refusals as protocol;
+ghost use Rattle.protocol.specs.Listing.{listedTurns};
+ghost use Rattle.listed.specs.Listed.{turnCount};
+
+// How many turns there are. The most are those of 8 workers with 128 steps each.
+fn turn_count(steps: usize, n: usize) -> usize
+    requires { ⌜ n ≤ 8 ⌝ }
+    requires { ⌜ steps ≤ 128 * n ⌝ }
+    ensures { λ r. ⌜ r ≡ turnCount steps n ⌝ }
+    ensures { λ r. ⌜ r ≤ 16512 ⌝ }
+{
+    2 * (steps + n) * n
+}
+
+// So many turns, which name 0 .. n − 1 again and again.
+fn fill(turns: &mut [u8], count: usize, n: usize)
+    requires { ⌜ count ≤ length (now turns) ⌝ }
+    requires { ⌜ 0 < n ⌝ }
+    requires { ⌜ n ≤ 8 ⌝ }
+    ensures { λ _. ⌜ length (now (turns .exit)) ≡ length (now (turns .entry)) ⌝ }
+    ensures { λ _. ⌜ ((i : ℕ) → i < count → getD (now (turns .exit)) i 0 ≡ i % n) ⌝ }
+{
+    let mut i = 0;
+    while i < count {
+        turns[i] = (i % n) as u8;
+        i += 1;
+    }
+}
+
+// Writes a plan's turns and returns how many they are. A file that is refused has none.
+pub fn write_turns(file: &[u8], turns: &mut [u8]) -> usize
+    requires { ⌜ 16512 ≤ length (now turns) ⌝ }
+    ensures kept { λ _. ⌜ length (now (turns .exit)) ≡ length (now (turns .entry)) ⌝ }
+    ensures within { λ r. ⌜ r ≤ 16512 ⌝ }
+    ensures listed { λ r. ⌜ (protocol.check (now (file .entry)) ≡ protocol.accepted → take r (now (turns .exit)) ≡ listedTurns (planOf (now (file .entry)))) ⌝ }
+{
+    let checked = check(file);
+    let verdict = checked.verdict;
+    let Verdict::Accepted = verdict else {
+        return 0;
+    };
+    let n = checked.layout.workers as usize;
+    let firsts = checked.layout.firsts;
+    let count = turn_count(firsts[n] - firsts[0], n);
+    fill(turns, count, n);
+    count
+}

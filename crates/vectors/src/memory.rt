@@ -1,0 +1,25 @@
+// A number that shows any change of one byte of the memory.
+ghost use mathlib.Core.Path.{_≡_};
+ghost use Prim.Native.Nat.{_≤_};
+ghost use Rattle.protocol.specs.Calls.{memorySize};
+ghost use Rattle.vectors.specs.Sum.{weighed};
+
+fn wide(byte: u8) -> u64
+    ensures { λ r. ⌜ r ≡ byte ⌝ }
+    ensures { λ r. ⌜ r ≤ 255 ⌝ }
+{
+    byte as u64
+}
+
+// The sum of (address + 1) × byte.
+pub fn memory_sum(memory: &[u8; 2048]) -> u64
+    ensures { λ r. ⌜ r ≡ weighed (now (memory .entry)) memorySize ⌝ }
+{
+    let mut sum = 0;
+    let mut address = 0;
+    while address < 2048 {
+        sum += (address as u64 + 1) * wide(memory[address]);
+        address += 1;
+    }
+    sum
+}
