@@ -1,14 +1,17 @@
--- A log record packed into one number, and what a record more makes of the log's bytes.
-use Prim.Native.Nat.{ℕ, suc, _+_, _-_, _*_, _/_, _%_, _<_, _≤_}
+-- A log record and the parts of a report packed into one number each, and what a record more makes of the log's bytes.
+use Prim.Native.Nat.{ℕ, suc, _+_, _-_, _*_, _/_, _%_, _^_, _<_, _≤_}
 use mathlib.Core.Path.{_≡_, refl, ap, sym, _∙_}
 use mathlib.Core.List.{List, [], _∷_, _++_, append-assoc, append-nil}
+use native.Mathlib.Nat.{pow-le-pow-right}
 use native.Mathlib.Omega.{arith}
-use lib.ListN.{length, take, drop, replicate, length-append, length-drop, drop-of-length-le}
+use lib.Dec.{lit<}
+use lib.ListN.{length, getD, take, drop, replicate, length-append, length-drop, drop-of-length-le}
 use borrow.Rule.Slice.PartMut.{midOf, putMid}
 use lib.Seq.{sets, sets-eq, take-at, length-take-le}
+use Rattle.protocol.specs.Format.{countFrom}
 use Rattle.protocol.specs.Rounds.{Entry}
-use Rattle.protocol.specs.Report.{entryBytes, logBytes}
-use Rattle.journal.specs.Bytes.{entryAs, bytesOf}
+use Rattle.protocol.specs.Report.{twoBytes, entryBytes, logBytes}
+use Rattle.journal.specs.Bytes.{entryAs, bytesOf, shown, fatesFrom, talliesOf}
 
 -- the lowest byte, and the number of the others
 lowest : (a m : ℕ) → a < 256 → (a + 256 * m) % 256 ≡ a
@@ -22,32 +25,43 @@ peel k n a m h e =
     ap (λ (x : ℕ). bytesOf (suc k) x) e
     ∙ (ap (λ (x : ℕ). x ∷ bytesOf k ((a + 256 * m) / 256)) (lowest a m h) ∙ ap (λ (x : ℕ). a ∷ bytesOf k x) (higher a m h))
 
+-- a number of two bytes, and the number of the others
+peel-two : (k n a m : ℕ) → a < 65536 → n ≡ a + 65536 * m → bytesOf (suc (suc k)) n ≡ twoBytes a ++ bytesOf k m
+peel-two k n a m h e =
+    let high : a / 256 ≡ a / 256 % 256 = omega arith in
+    peel (suc k) n (a % 256) (a / 256 + 256 * m) (omega arith) (omega arith)
+    ∙ ap (λ (l : List ℕ). a % 256 ∷ l) (peel k (a / 256 + 256 * m) (a / 256) m (omega arith) refl ∙ ap (λ (x : ℕ). x ∷ bytesOf k m) high)
+
 pub packs : (r w o k c : ℕ) → r < 65536 → w < 256 → o < 256 → k < 256 → c < 256
     → bytesOf 8 (19533 + 65536 * r + 4294967296 * (w + 256 * o + 65536 * (k + 256 * c))) ≡ entryBytes (entryAs r w o k c)
 packs r w o k c hr hw ho hk hc =
-    let m₆ = k + 256 * c in
-    let m₅ = o + 256 * m₆ in
-    let m₄ = w + 256 * m₅ in
-    let m₃ = r / 256 + 256 * m₄ in
-    let m₂ = r % 256 + 256 * m₃ in
-    peel 7 _ 77 (76 + 256 * m₂) (omega arith) (omega arith)
-    ∙ ap (λ (l : List ℕ). 77 ∷ l)
-    (peel 6 _ 76 m₂ (omega arith) refl
-    ∙ ap (λ (l : List ℕ). 76 ∷ l)
-    (peel 5 _ (r % 256) m₃ (omega arith) refl
-    ∙ ap (λ (l : List ℕ). r % 256 ∷ l)
-    (peel 4 _ (r / 256) m₄ (omega arith) refl
-    ∙ (ap (λ (x : ℕ). x ∷ bytesOf 4 m₄) round-high
-    ∙ ap (λ (l : List ℕ). r / 256 % 256 ∷ l)
+    let m₅ = o + 256 * (k + 256 * c) in
+    let last : c % 256 ≡ c = omega arith in
+    peel-two 6 _ 19533 (r + 65536 * (w + 256 * m₅)) (omega arith) (omega arith)
+    ∙ ap (λ (l : List ℕ). 77 ∷ 76 ∷ l)
+    (peel-two 4 _ r (w + 256 * m₅) hr refl
+    ∙ ap (λ (l : List ℕ). twoBytes r ++ l)
     (peel 3 _ w m₅ hw refl
-    ∙ ap (λ (l : List ℕ). w ∷ l)
-    (peel 2 _ o m₆ ho refl ∙ ap (λ (l : List ℕ). o ∷ l) (peel 1 _ k c hk refl ∙ ap (λ (x : ℕ). k ∷ x ∷ []) (last c hc))))))))
-  where
-    round-high : r / 256 ≡ r / 256 % 256
-    round-high = omega arith
+    ∙ ap (λ (l : List ℕ). w ∷ l) (peel 2 _ o (k + 256 * c) ho refl ∙ ap (λ (l : List ℕ). o ∷ l) (peel 1 _ k c hk refl ∙ ap (λ (x : ℕ). k ∷ x ∷ []) last))))
 
-    last : (x : ℕ) → x < 256 → x % 256 ≡ x
-    last x h = omega arith
+pub packs-tallies : (e w m r k : ℕ) → e < 256 → w < 256 → m < 65536 → r < 65536
+    → bytesOf 8 (e + 256 * w + 65536 * (m + 65536 * (r + 65536 * k))) ≡ talliesOf e w m r k
+packs-tallies e w m r k he hw hm hr =
+    let m₂ = m + 65536 * (r + 65536 * k) in
+    peel 7 _ e (w + 256 * m₂) he (omega arith)
+    ∙ ap (λ (l : List ℕ). e ∷ l)
+    (peel 6 _ w m₂ hw refl
+    ∙ ap (λ (l : List ℕ). w ∷ l) (peel-two 4 _ m (r + 65536 * k) hm refl ∙ ap (λ (l : List ℕ). twoBytes m ++ l) (peel-two 2 _ r k hr refl)))
+
+-- one fate more, in front of those of the workers behind it
+pub fates-more : (workers : ℕ) (fates : List ℕ) (k w packed : ℕ) {b : ℕ} → b < 256 → b ≡ shown workers w (getD fates w 0)
+    → bytesOf k packed ≡ fatesFrom workers fates k (suc w) → bytesOf (suc k) (b + 256 * packed) ≡ fatesFrom workers fates (suc k) w
+unfolding countFrom
+fates-more workers fates k w packed {b} h e later =
+    peel k (b + 256 * packed) b packed h refl ∙ rw e (ap (λ (l : List ℕ). shown workers w (getD fates w 0) ∷ l) later)
+
+pub bytes-small : (k : ℕ) → k ≤ 7 → 256 ^ k ≤ 72057594037927936
+bytes-small k h = pow-le-pow-right {n = 256} (lit< tt) {i = k} {j = 7} h
 
 logBytes-more : (es : List Entry) (e : Entry) → logBytes (es ++ (e ∷ [])) ≡ logBytes es ++ entryBytes e
 unfolding logBytes
@@ -78,6 +92,10 @@ cleared l at h =
     whole : length (take (length l - at) (drop at l)) ≡ length l - at
     whole = length-take-le (length l - at) (drop at l) (let e = length-drop at l in omega arith)
 
--- every byte written anew
-pub filled : (l vs : List ℕ) → length vs ≡ length l → sets l 0 vs ≡ vs
-filled l vs e = sets-eq vs l 0 (omega arith) ∙ (ap (λ (r : List ℕ). vs ++ r) (drop-of-length-le l {i = 0 + length vs} (omega arith)) ∙ append-nil vs)
+-- sixteen bytes written anew, eight and eight
+pub halves : (l : List ℕ) {m r a b : List ℕ} (x y : ℕ) → length l ≡ 16 → m ≡ sets l 0 (bytesOf 8 x) → r ≡ sets m 8 (bytesOf 8 y)
+    → bytesOf 8 x ≡ a → bytesOf 8 y ≡ b → r ≡ a ++ b
+halves l x y size low high low-is high-is =
+    rw (← low-is, ← high-is, high, low)
+    (sets-eq (bytesOf 8 x ++ bytesOf 8 y) l 0 (omega arith)
+    ∙ ap (λ (k : List ℕ). (bytesOf 8 x ++ bytesOf 8 y) ++ k) (drop-of-length-le l {i = 16} (omega arith)))

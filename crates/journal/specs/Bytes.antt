@@ -4,7 +4,7 @@ use mathlib.Core.Bool.{cond}
 use mathlib.Core.List.{List, [], _∷_, _++_, map}
 use lib.Dec.{ltb, leb}
 use lib.ListN.{getD}
-use Rattle.protocol.specs.Format.{upTo}
+use Rattle.protocol.specs.Format.{countFrom}
 use Rattle.protocol.specs.Rounds.{Entry}
 use Rattle.protocol.specs.Report.{twoBytes}
 use Rattle.journal.specs.declared.report.Tallies.{Tallies}
@@ -21,9 +21,14 @@ bytesOf (suc k) n = n % 256 ∷ bytesOf k (n / 256)
 abbrev pub shown : ℕ → ℕ → ℕ → ℕ
 shown workers w code = cond (leb workers w) 255 (cond (ltb code 4) code (3 + code % 2))
 
+-- the bytes of so many fates, from worker w's on
+abbrev pub fatesFrom : ℕ → List ℕ → ℕ → ℕ → List ℕ
+fatesFrom workers fates k w = map (λ v. shown workers v (getD fates v 0)) (countFrom k w)
+
+-- end, number of workers, moving turns, rounds, log records
+abbrev pub talliesOf : ℕ → ℕ → ℕ → ℕ → ℕ → List ℕ
+talliesOf end workers moves rounds records = end ∷ workers ∷ (twoBytes moves ++ (twoBytes rounds ++ twoBytes records))
+
 unfoldable pub reportOf : Tallies → List ℕ → List ℕ
 reportOf t fates =
-    t .end
-    ∷ t .workers
-    ∷ (twoBytes (t .moves)
-    ++ (twoBytes (t .rounds) ++ (twoBytes (t .records) ++ map (λ w. shown (t .workers) w (getD fates w 0)) (upTo 8))))
+    talliesOf (t .end) (t .workers) (t .moves) (t .rounds) (t .records) ++ fatesFrom (t .workers) fates 8 0

@@ -12,6 +12,7 @@ use Rattle.protocol.specs.Format.{Own, assign, load, store, add, subtract, skip
 use Rattle.protocol.specs.Pages.{Copies, loadWord}
 use Rattle.protocol.specs.Steps as steps
 use Rattle.protocol.specs.Steps.{Fate, going, ownStep}
+use Rattle.protocol.proofs.OwnMoves.{own-leaves}
 use Rattle.plan.specs.declared.decode.Record.{Record}
 use Rattle.pages.specs.Copies.{copiesIn, WorkerHolds}
 use Rattle.worker.proofs.OwnSteps.{step-own}
@@ -88,16 +89,6 @@ own-copies memory op register number v e =
         (cond (eqb op 21) (skipZero register number)
         (cond (eqb op 22) (skipNonzero register number) (assign register number))))
 
-own-held : (memory : List ℕ) (o : Own) (v : steps.Worker) → ownStep memory o v .held ≡ v .held
-unfolding ownStep
-own-held memory (assign r k) v = refl
-own-held memory (load r k) v = refl
-own-held memory (store r k) v = refl
-own-held memory (add r k) v = refl
-own-held memory (subtract r k) v = refl
-own-held memory (skipZero r k) v = refl
-own-held memory (skipNonzero r k) v = refl
-
 -- the parts of an own step make the whole
 pub own-moved :
     (v : Worker) (r : Record) (w : ℕ) (memory : List ℕ) (marks : List Bool) (work : List ℕ) (marks′ : List Bool) (work′ : List ℕ) (read : ℕ) (m : Moved)
@@ -112,7 +103,7 @@ own-moved v r w memory marks work marks′ work′ read m eight loads stepped ho
       others = holds .others;
       size = holds .size;
       markSize = holds .markSize ∙ eight;
-      held = sym (ap (λ (u : steps.Worker). u .held) (step false going)) ∙ own-held memory o (viewed v false copies going);
+      held = sym (ap (λ (u : steps.Worker). u .held) (step false going)) ∙ own-leaves memory o (viewed v false copies going) .1;
     }
   where
     copies : Copies

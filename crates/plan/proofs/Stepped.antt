@@ -144,48 +144,53 @@ module _ (rs : List Record) (n : ℕ) (sizes : List ℕ) (opened : ℕ) (firsts 
       }
 
 -- one step record of the reading, by its index
-module _ (file : List ℕ) (count n : ℕ) (sizes : List ℕ) (opened : ℕ) (firsts : List ℕ) (i : ℕ) (least : 1 ≤ i) (most : i < count) (eight : n ≤ 8)
-    (k : Kept (before file i) n sizes opened firsts) (none-there : opened ≡ 0 → isBarrier (recordAt file i) ≡ false) where
-  same-rule : (b : Body) → decodedOf (recordAt file i) ≡ decoded.Read b → laterRule (before file i) (recordAt file i) ≡ laterRuling n opened sizes firsts i b
-  same-rule b e =
-      later-ruled (before file i) n sizes opened firsts k eight (recordAt file i) none-there
-      ∙ (ap (λ (j : ℕ). laterRuling n opened sizes firsts j (bodyOf (recordAt file i))) (length-before file i)
-      ∙ ap (λ (r : Body). laterRuling n opened sizes firsts i r) (sym (told (recordAt file i) b e .1)))
+pub record OneStep (file : List ℕ) (count n : ℕ) (sizes : List ℕ) (opened : ℕ) (firsts : List ℕ) (i : ℕ) (b : Body) : Type 0 where
+  pub least : 1 ≤ i
+  pub most : i < count
+  pub eight : n ≤ 8
+  pub kept : Kept (before file i) n sizes opened firsts
+  pub noBarrier : opened ≡ 0 → isBarrier (recordAt file i) ≡ false
+  pub read : decodedOf (recordAt file i) ≡ decoded.Read b
 
-  pub later-step : (b : Body) → decodedOf (recordAt file i) ≡ decoded.Read b
-      → verdictFrom file count i ≡ ruled (laterRuling n opened sizes firsts i b) i (verdictFrom file count (i + 1))
-  later-step b e =
-      marked-step file count i least most b e
-      ∙ ap (λ (rule : protocol.Rule). ruled rule i (verdictFrom file count (i + 1))) (same-rule b e)
+module _ {file : List ℕ} {count n : ℕ} {sizes : List ℕ} {opened : ℕ} {firsts : List ℕ} {i : ℕ} {b : Body} (at : OneStep file count n sizes opened firsts i b) where
+  same : b ≡ bodyOf (recordAt file i)
+  same = told (recordAt file i) b (at .read) .1
+
+  same-rule : laterRule (before file i) (recordAt file i) ≡ laterRuling n opened sizes firsts i b
+  same-rule =
+      later-ruled (before file i) n sizes opened firsts (at .kept) (at .eight) (recordAt file i) (at .noBarrier)
+      ∙ (ap (λ (j : ℕ). laterRuling n opened sizes firsts j (bodyOf (recordAt file i))) (length-before file i)
+      ∙ ap (λ (r : Body). laterRuling n opened sizes firsts i r) (sym same))
+
+  pub later-step : {rule : protocol.Rule} → laterRuling n opened sizes firsts i b ≡ rule
+      → verdictFrom file count i ≡ ruled rule i (verdictFrom file count (i + 1))
+  later-step e =
+      marked-step file count i (at .least) (at .most) b (at .read)
+      ∙ ap (λ (rule : protocol.Rule). ruled rule i (verdictFrom file count (i + 1))) (same-rule ∙ e)
 
   -- the record is taken: a step, since no barrier record passes here
-  step-of : (b : Body) → decodedOf (recordAt file i) ≡ decoded.Read b → laterRuling n opened sizes firsts i b ≡ holds → StepTaken (before file i) (recordAt file i)
-  step-of b e h =
-      ⊎-elim
-      (λ t. absurd (true≢false (sym (t .barrier) ∙ (ap (λ (r : Body). eqb (r .op) 1) (sym (told (recordAt file i) b e .1)) ∙ passes (eqb (b .op) 1) protocol.badBarrier (stepRuling n opened sizes firsts i b) (passes (eqb (b .op) 0) protocol.badPlan (refuseIf (eqb (b .op) 1) protocol.badBarrier (stepRuling n opened sizes firsts i b)) h .1) .0))))
-      (λ t. t)
-      (later-taken (before file i) (recordAt file i) (same-rule b e ∙ h))
+  module _ (h : laterRuling n opened sizes firsts i b ≡ holds) where
+    step-of : StepTaken (before file i) (recordAt file i)
+    step-of =
+        ⊎-elim
+        (λ t. absurd (true≢false (sym (t .barrier) ∙ (ap (λ (r : Body). eqb (r .op) 1) (sym same) ∙ passes (eqb (b .op) 1) protocol.badBarrier (stepRuling n opened sizes firsts i b) (passes (eqb (b .op) 0) protocol.badPlan (refuseIf (eqb (b .op) 1) protocol.badBarrier (stepRuling n opened sizes firsts i b)) h .1) .0))))
+        (λ t. t)
+        (later-taken (before file i) (recordAt file i) (same-rule ∙ h))
 
-  pub worker-below : (b : Body) → decodedOf (recordAt file i) ≡ decoded.Read b → laterRuling n opened sizes firsts i b ≡ holds → b .worker < n
-  worker-below b e h =
-      let t = step-of b e h .below in
-      let w = k .workers in
-      let s = ap (λ (r : Body). r .worker) (told (recordAt file i) b e .1) in
-      omega arith
+    pub worker-below : b .worker < n
+    worker-below = omega (arith, step-of .below, at .kept .workers, ap (λ (r : Body). r .worker) same)
 
-  pub step-more : (b : Body) (new : List ℕ) → decodedOf (recordAt file i) ≡ decoded.Read b → laterRuling n opened sizes firsts i b ≡ holds
-      → Opened firsts opened (b .worker + 1) i new → Kept (before file (i + 1)) n sizes (b .worker + 1) new
-  step-more b new e h o =
-      let r = recordAt file i in
-      let same = told r b e .1 in
-      let read = read-next file i least (k .read) (same-rule b e ∙ h) in
-      let workers = workers-same file (i + 1) (omega arith) ∙ (sym (workers-same file i least) ∙ k .workers) in
-      subst⁻¹ (λ (w : ℕ). Kept (before file (i + 1)) n sizes (w + 1) new) (ap (λ (r : Body). r .worker) same)
-      (subst⁻¹ (λ (rs : List Record). Kept rs n sizes (r .worker + 1) new) (before-more file i)
-      (kept-more (before file i) n sizes opened firsts k eight r new (step-of b e h) (subst Read (before-more file i) read)
-      (ap workersIn (sym (before-more file i)) ∙ workers)
-      (subst⁻¹ (λ (j : ℕ). Opened firsts opened (r .worker + 1) j new) (length-before file i)
-      (subst (λ (w : ℕ). Opened firsts opened (w + 1) i new) (ap (λ (r : Body). r .worker) same) o))))
+    pub step-more : {new : List ℕ} → Opened firsts opened (b .worker + 1) i new → Kept (before file (i + 1)) n sizes (b .worker + 1) new
+    step-more {new} o =
+        let r = recordAt file i in
+        let read = read-next file i (at .least) (at .kept .read) (same-rule ∙ h) in
+        let workers = workers-same file (i + 1) (omega arith) ∙ (sym (workers-same file i (at .least)) ∙ at .kept .workers) in
+        subst⁻¹ (λ (w : ℕ). Kept (before file (i + 1)) n sizes (w + 1) new) (ap (λ (r : Body). r .worker) same)
+        (subst⁻¹ (λ (rs : List Record). Kept rs n sizes (r .worker + 1) new) (before-more file i)
+        (kept-more (before file i) n sizes opened firsts (at .kept) (at .eight) r new step-of (subst Read (before-more file i) read)
+        (ap workersIn (sym (before-more file i)) ∙ workers)
+        (subst⁻¹ (λ (j : ℕ). Opened firsts opened (r .worker + 1) j new) (length-before file i)
+        (subst (λ (w : ℕ). Opened firsts opened (w + 1) i new) (ap (λ (r : Body). r .worker) same) o))))
 
 -- all records read
 pub all-read : (file : List ℕ) (count : ℕ) → verdictFrom file count count ≡ protocol.checkSkips 0 (before file count)

@@ -29,14 +29,18 @@ badWorker n opened worker = leb n worker || ltb (worker + 1) opened
 abbrev pub readSteps : List ℕ → ℕ → ℕ → ℕ → ℕ
 readSteps firsts opened worker i = cond (ltb worker opened) (i - getD firsts worker 0) 0
 
+-- the rule of a step's operands
+abbrev pub operandRuling : List ℕ → Record → protocol.Rule
+operandRuling sizes r =
+    refuseIf (protocol.operandsOutside (format.rowOf (r .op)) (r .register) (r .number)) protocol.badOperand
+    (refuseIf (eqb (r .op) 37 && eqb (getD sizes (r .number) 0) 0) protocol.noSize holds)
+
 -- the rule of a step record, from what has been kept of the records before it
 abbrev pub stepRuling : ℕ → ℕ → List ℕ → List ℕ → ℕ → Record → protocol.Rule
 stepRuling n opened sizes firsts i r =
     refuseIf (not (format.known (r .op))) protocol.badOp
     (refuseIf (badWorker n opened (r .worker)) protocol.badWorker
-    (refuseIf (leb 128 (readSteps firsts opened (r .worker) i)) protocol.tooManySteps
-    (refuseIf (protocol.operandsOutside (format.rowOf (r .op)) (r .register) (r .number)) protocol.badOperand
-    (refuseIf (eqb (r .op) 37 && eqb (getD sizes (r .number) 0) 0) protocol.noSize holds))))
+    (refuseIf (leb 128 (readSteps firsts opened (r .worker) i)) protocol.tooManySteps (operandRuling sizes r)))
 
 -- the rule of an op without a step
 abbrev pub noStepRuling : ℕ → protocol.Rule

@@ -9,12 +9,11 @@ use crate::table::ROWS;
 use crate::table::Row;
 use crate::table::place;
 ghost use mathlib.Core.Path.{_≡_};
-ghost use mathlib.Core.Bool.{true};
 ghost use Prim.Native.Nat.{ℕ, _+_, _*_, _≤_, _<_};
 ghost use lib.ListN.{length, getD};
-ghost use Rattle.protocol.specs.Format.{rowOf, known};
+ghost use Rattle.protocol.specs.Format.{rowOf};
 ghost use Rattle.plan.specs.Answer.{ruleOf, limitsOf, RowsRight};
-ghost use Rattle.plan.specs.Stepping.{outsideOf, badWorker, readSteps, noStepRuling, stepRuling, laterRuling, StepsSoFar, Opened, StepsRead};
+ghost use Rattle.plan.specs.Stepping.{outsideOf, badWorker, readSteps, noStepRuling, operandRuling, laterRuling, StepsSoFar, Opened, StepsRead};
 
 // The index of each worker's first step; that of worker `n` is behind the last.
 pub struct Steps {
@@ -75,41 +74,20 @@ fn no_step_ruling(op: u8) -> Ruling
     Ruling::Refuses(Refusal::BadOp)
 }
 
-// The rule of a step record, whose op has the row.
-fn step_ruling(
-    row: Row,
-    r: Record,
-    n: usize,
-    opened: usize,
-    sizes: &[u8; 8],
-    firsts: &[usize; 9],
-    i: usize,
-) -> Ruling
+// The rule of a step's operands, whose op has the row.
+fn operand_ruling(row: Row, r: Record, sizes: &[u8; 8]) -> Ruling
     requires { ⌜ row ≡ limitsOf (rowOf (r .op)) ⌝ }
-    requires { ⌜ known (r .op) ≡ true ⌝ }
-    requires { ⌜ n ≤ 8 ⌝ }
-    requires { ⌜ opened ≤ n ⌝ }
-    requires { ⌜ ((w : ℕ) → w < opened → getD (now firsts) w 0 ≤ i) ⌝ }
-    ensures { λ s. ⌜ ruleOf s ≡ stepRuling n opened (now (sizes .entry)) (now (firsts .entry)) i r ⌝ }
+    ensures { λ s. ⌜ ruleOf s ≡ operandRuling (now (sizes .entry)) r ⌝ }
 {
-    let op = r.op;
-    let worker = r.worker as usize;
     let number = r.number;
-    if bad_worker(worker, n, opened) {
-        return Ruling::Refuses(Refusal::BadWorker);
-    }
-    if 128 <= steps_read(firsts, opened, worker, i) {
-        return Ruling::Refuses(Refusal::TooManySteps);
-    }
     if outside(row, r.register, number) {
         return Ruling::Refuses(Refusal::BadOperand);
     }
-    if op != 37 {
-        return Ruling::Holds;
-    }
-    let at = number as usize;
-    if sizes[at] == 0 {
-        return Ruling::Refuses(Refusal::NoSize);
+    if r.op == 37 {
+        let at = number as usize;
+        if sizes[at] == 0 {
+            return Ruling::Refuses(Refusal::NoSize);
+        }
     }
     Ruling::Holds
 }
@@ -133,7 +111,14 @@ fn later_ruling(
     if row.2 < row.1 {
         return no_step_ruling(r.op);
     }
-    step_ruling(row, r, n, opened, sizes, firsts, i)
+    let worker = r.worker as usize;
+    if bad_worker(worker, n, opened) {
+        return Ruling::Refuses(Refusal::BadWorker);
+    }
+    if 128 <= steps_read(firsts, opened, worker, i) {
+        return Ruling::Refuses(Refusal::TooManySteps);
+    }
+    operand_ruling(row, r, sizes)
 }
 
 // The steps of the workers from `opened` up to `worker` begin at record i.

@@ -10,7 +10,7 @@ use lib.Dec.{eqb}
 use lib.ListN.{length, getD, set, replicate}
 use lib.Seq.{getD-set-same, getD-set-other}
 use borrow.Author.Tests.{eq-eqb, ne-eqb}
-use Rattle.protocol.specs.Format.{Own, assign, load, store, add, subtract, skipZero, skipNonzero, Step, own, sync, Sync, Plan}
+use Rattle.protocol.specs.Format.{Own, Step, own, sync, Sync, Plan}
 use Rattle.protocol.specs.Steps.{Worker, newWorker, arrivedAs, ownStep}
 use Rattle.protocol.specs.Rounds.{Entry, State, workerAt, ownMove, arrival, member, syncMove, newRound, Ruling, ruleOf, queueOf}
 use Rattle.protocol.specs.Turns.{workersOf, start, allArrived, can, move, closed, closing, ended, noneLeft, behind}
@@ -18,7 +18,7 @@ use Rattle.protocol.specs.RoundRun.{moveLimit, stepNow, runUp, fence, ho
 use Rattle.protocol.specs.Demands.{occurs}
 use Rattle.protocol.proofs.Confluence.{Machine, Run, here, via, joined, Laws, run-kept, run-falls}
 use Rattle.protocol.proofs.Invariant.{measure, Core, Inv}
-use Rattle.protocol.proofs.OwnMoves.{listed}
+use Rattle.protocol.proofs.OwnMoves.{listed, own-leaves}
 use Rattle.protocol.proofs.Rulings.{Lawful, applied-core, applied-arrived}
 use Rattle.protocol.proofs.Rules.{rule-lawful}
 use Rattle.protocol.proofs.Fence.{can-runUp, can-hold, all-arrived, arrived-all}
@@ -38,17 +38,6 @@ machine plan =
 -- whether a worker has arrived
 abbrev mark : State → ℕ → Bool
 mark s w = workerAt s w .arrived
-
--- an own step leaves it
-own-mark : (memory : List ℕ) (o : Own) (v : Worker) → ownStep memory o v .arrived ≡ v .arrived
-unfolding ownStep
-own-mark memory (assign r k) v = refl
-own-mark memory (load r a) v = refl
-own-mark memory (store r a) v = refl
-own-mark memory (add r q) v = refl
-own-mark memory (subtract r q) v = refl
-own-mark memory (skipZero r k) v = refl
-own-mark memory (skipNonzero r k) v = refl
 
 or-true : (b : Bool) → true ≡ (b || true)
 or-true true = refl
@@ -73,7 +62,7 @@ set-same f (y ∷ ys) (suc w) x e zero = refl
 set-same f (y ∷ ys) (suc w) x e (suc v) = set-same f ys w x e v
 
 ownMove-mark : (o : Own) (w : ℕ) (s : State) (v : ℕ) → mark (ownMove o w s) v ≡ mark s v
-ownMove-mark o w s v = set-same (λ x. x .arrived) (s .workers) w (ownStep (s .memory) o (workerAt s w)) (own-mark (s .memory) o (workerAt s w)) v
+ownMove-mark o w s v = set-same (λ x. x .arrived) (s .workers) w (ownStep (s .memory) o (workerAt s w)) (own-leaves (s .memory) o (workerAt s w) .0) v
 
 arrival-mark : (w : ℕ) (s : State) → w < length (s .workers) → (v : ℕ) → mark (arrival w s) v ≡ (mark s v || member v (w ∷ []))
 unfolding member

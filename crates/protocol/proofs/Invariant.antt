@@ -16,34 +16,29 @@ unfoldable pub sumOf : (ℕ → Worker → ℕ) → List Worker → ℕ
 sumOf f [] = 0
 sumOf f (v ∷ vs) = f 0 v + sumOf (λ w. f (suc w)) vs
 
+-- one of three numbers: for a worker that runs, for one that waits, for one that has left
+abbrev byFate : ℕ → ℕ → ℕ → Fate → ℕ
+byFate run wait left going = run
+byFate run wait left exited = left
+byFate run wait left failed = left
+byFate run wait left (waiting q) = wait
+
 -- 1 for a worker that runs, for one that waits, for one that has left
 abbrev pub runs : Fate → ℕ
-runs going = 1
-runs exited = 0
-runs failed = 0
-runs (waiting q) = 0
+runs = byFate 1 0 0
 
 abbrev pub waits : Fate → ℕ
-waits going = 0
-waits exited = 0
-waits failed = 0
-waits (waiting q) = 1
+waits = byFate 0 1 0
 
 abbrev pub gone : Fate → ℕ
-gone going = 0
-gone exited = 1
-gone failed = 1
-gone (waiting q) = 0
+gone = byFate 0 0 1
 
 abbrev pub tick : Bool → ℕ
 tick true = 1
 tick false = 0
 
 abbrev pub lasting : Fate → ℕ → ℕ
-lasting going k = k
-lasting exited k = 0
-lasting failed k = 0
-lasting (waiting q) k = k
+lasting f k = byFate k k 0 f
 
 -- the moves that a worker with so many steps has left at most: two for each step and for the end, less one if it has arrived
 abbrev pub weight : ℕ → Worker → ℕ

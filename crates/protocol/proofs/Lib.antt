@@ -1,3 +1,5 @@
+-- Going by cases over a range of numbers.
+pub mod Each
 -- The plan file: what an accepted one is.
 pub mod Records
 pub mod Taken

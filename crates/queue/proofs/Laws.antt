@@ -1,6 +1,6 @@
 -- What callers know of a queue beside its contracts, in terms of its list alone.
 -- Assumes nothing.
-use Prim.Native.Nat.{ℕ, zero, suc, _/_, _%_, _≤_, _<_}
+use Prim.Native.Nat.{ℕ, zero, suc, _+_, _/_, _%_, _≤_, _<_}
 use native.Mathlib.Omega.{arith}
 use borrow.Author.Tests.{eq-eqb, eqb-true, not-true}
 use mathlib.Core.Bool.{Bool, true, false, not, _||_}
@@ -12,7 +12,7 @@ use Rattle.protocol.specs.Format.{countFrom, upTo}
 use Rattle.protocol.specs.Rounds.{member}
 use Rattle.protocol.specs.Turns.{noneLeft}
 use Rattle.queue.specs.declared.Queue.{Queue}
-use Rattle.queue.specs.List.{digitsOf, listOf, Good, Below}
+use Rattle.queue.specs.List.{digitsOf, listOf, Good, Holds, Below}
 use Rattle.queue.proofs.Digits.{length-list}
 
 pub good-short : (q : Queue) → Good q → length (listOf q) ≤ 8
@@ -31,12 +31,19 @@ pub workers-small : (q : Queue) → Below 16 (listOf q)
 unfolding listOf
 workers-small q = digits-small (q .len) (q .digits)
 
-some-in : (ws : List ℕ) → noneLeft ws ≡ false → 0 < length ws
+pub some-in : (ws : List ℕ) → noneLeft ws ≡ false → 0 < length ws
 some-in [] e = let z : _≡_ {A = ℕ} 0 1 = cc in omega arith
 some-in (w ∷ ws) e = omega arith
 
 pub some-left : (q : Queue) {b : Bool} → b ≡ noneLeft (listOf q) → not b ≡ true → 0 < length (listOf q)
 some-left q {b} e n = some-in (listOf q) (sym e ∙ not-true b n)
+
+pub length-rest : (ws : List ℕ) → 0 < length ws → length ws ≡ length (drop 1 ws) + 1
+length-rest [] h = absurd (omega arith)
+length-rest (w ∷ ws) h = omega arith
+
+pub rest-less : (l : Queue) {m : Queue} → 0 < length (listOf l) → Holds m (drop 1 (listOf l)) → length (listOf m) < length (listOf l)
+rest-less l some rest = omega (arith, length-rest (listOf l) some, ap length (rest .list))
 
 abbrev pub first : List ℕ → ℕ
 first ws = getD ws 0 0

@@ -12,7 +12,7 @@ use Rattle.protocol.specs.Rounds.{keep, member}
 use Rattle.protocol.specs.Turns.{noneLeft}
 use Rattle.queue.specs.declared.Queue.{Queue}
 use Rattle.queue.specs.List.{listOf, Good, Holds}
-use Rattle.queue.proofs.Laws.{good-short, first}
+use Rattle.queue.proofs.Laws.{good-short, rest-less, first}
 
 none-left : (t : ℕ → Bool) (ws : List ℕ) → noneLeft ws ≡ true → keep t ws ≡ []
 unfolding keep
@@ -61,19 +61,12 @@ pub scan-end :
 scan-end {t} {all} {l} {k} {b} s e n =
     record { good = s .kept; list = rw (none-left t (listOf l) (sym e ∙ not-false b n), append-nil) at (s .list) }
 
-length-rest : (ws : List ℕ) → 0 < length ws → length ws ≡ suc (length (drop 1 ws))
-length-rest [] h = omega arith
-length-rest (w ∷ ws) h = refl
-
 -- a turn of the scan, which takes the worker v off
 module _ {t : ℕ → Bool} {all : List ℕ} {l k : Queue} (s : Scan t all l k) (some : 0 < length (listOf l)) where
   pub scan-room : length (listOf k) < 8
   scan-room = omega (arith, s .short)
 
   module _ {m : Queue} (rest : Holds m (drop 1 (listOf l))) where
-    pub scan-less : length (listOf m) < length (listOf l)
-    scan-less = omega (arith, length-rest (listOf l) some, ap length (rest .list))
-
     module _ {v : ℕ} (taken : v ≡ first (listOf l)) {b : Bool} (tested : t v ≡ b) where
       turned : listOf k ++ cond b (v ∷ keep t (listOf m)) (keep t (listOf m)) ≡ keep t all
       turned = rw (rest .list, ← tested, taken) (rw (keep-first t (listOf l) some) at (s .list))
@@ -81,7 +74,7 @@ module _ {t : ℕ → Bool} {all : List ℕ} {l k : Queue} (s : Scan t all l k) 
     pub scan-pass : {v : ℕ} → v ≡ first (listOf l) → t v ≡ false → {j : Queue} → j ≡ k → Scan t all m j
     scan-pass e n same =
         rw same
-        record { left = rest .good; kept = s .kept; short = omega (arith, scan-less, s .short); list = turned e n }
+        record { left = rest .good; kept = s .kept; short = omega (arith, rest-less l some rest, s .short); list = turned e n }
 
     pub scan-keep : {v : ℕ} → v ≡ first (listOf l) → t v ≡ true → {j p : Queue} → Holds p (listOf k ++ (v ∷ [])) → j ≡ p → Scan t all m j
     scan-keep {v} e y pushed same =
@@ -89,7 +82,7 @@ module _ {t : ℕ → Bool} {all : List ℕ} {l k : Queue} (s : Scan t all l k) 
         record {
           left = rest .good;
           kept = pushed .good;
-          short = omega (arith, scan-less, s .short, ap length (pushed .list), length-append (listOf k) (v ∷ []));
+          short = omega (arith, rest-less l some rest, s .short, ap length (pushed .list), length-append (listOf k) (v ∷ []));
           list = rw (pushed .list, append-assoc) (turned e y);
         }
 

@@ -4,7 +4,7 @@ use mathlib.Core.Bool.{Bool, true, cond, not}
 use mathlib.Core.Path.{_≡_}
 use mathlib.Core.List.{List, [], _∷_}
 use lib.Dec.{eqb}
-use lib.ListN.{getD}
+use lib.ListN.{getD, set}
 use Rattle.protocol.specs.Rounds.{member}
 use Rattle.queue.specs.declared.Queue.{Queue}
 
@@ -34,3 +34,8 @@ Below n workers = (w : ℕ) → member w workers ≡ true → w < n
 -- whether a worker's entry is the key, or is not
 abbrev pub matches : Bool → List ℕ → ℕ → ℕ → Bool
 matches wanted on key w = cond wanted (eqb (getD on w 0) key) (not (eqb (getD on w 0) key))
+
+-- entries, where each of these workers has x
+abbrev pub setAll : {A : Type 0} → A → List ℕ → List A → List A
+setAll x [] entries = entries
+setAll x (w ∷ ws) entries = setAll x ws (set entries w x)

@@ -1,17 +1,16 @@
 -- The laws of the codes. Callers want `fate-code`, `code-same`, `step-sync`, `op-sync` and `operand-sync`.
 -- Assumes nothing.
 use Prim.Native.Nat.{ℕ, _+_, _*_, _-_, _/_, _%_, _≤_, _<_}
-use native.Mathlib.Nat.{eq-or-lt-of-le}
 use native.Mathlib.Omega.{arith}
 use borrow.Author.Tests.{le-ltb, eq-eqb, ne-eqb, eqb-true, eqb-false}
 use mathlib.Core.Bool.{Bool, true, false, cond, not}
-use mathlib.Core.Logic.{⊎-elim}
 use mathlib.Core.Option.{none, some}
-use mathlib.Core.Path.{_≡_, refl, subst}
+use mathlib.Core.Path.{_≡_, refl}
 use lib.Dec.{ltb, eqb}
 use Rattle.protocol.specs.Format.{Record, rowIn, rowOf, stepOf, sync, exit}
 use Rattle.protocol.specs.Steps.{Queue, onCondition, atBarrier, Fate, going, exited, failed, waiting}
 use Rattle.protocol.specs.Rounds.{waitsOn, isWaiting, hasArrived, opOf, operandOf}
+use Rattle.protocol.proofs.Each.{each}
 use Rattle.rules.specs.Codes.{fateCode, fateOf, syncOf}
 
 pub fate-code : (f : Fate) → fateOf (fateCode f) ≡ f
@@ -72,60 +71,19 @@ waits-here k e = rw e (go (eqb (k % 2) 0) ((k - 4) / 2) ((k - 5) / 2))
     go true c d = refl
     go false c d = refl
 
--- the ops of synchronising steps, to go by cases on
-data SyncOp : ℕ → Type 0 where
-  op32 : SyncOp 32
-  op33 : SyncOp 33
-  op34 : SyncOp 34
-  op35 : SyncOp 35
-  op36 : SyncOp 36
-  op37 : SyncOp 37
-  op38 : SyncOp 38
-
-down : (n : ℕ) {op : ℕ} → SyncOp n → (n < op → SyncOp op) → n ≤ op → SyncOp op
-down n o above h = ⊎-elim (λ e. subst (λ (k : ℕ). SyncOp k) e o) above (eq-or-lt-of-le h)
-
-sync-op : (op : ℕ) → 32 ≤ op → op ≤ 38 → SyncOp op
-sync-op op least most =
-    down 32 op32 (down 33 op33 (down 34 op34 (down 35 op35 (down 36 op36 (down 37 op37 (down 38 op38 (λ h. absurd (omega arith)))))))) least
-
-row-sync : {op : ℕ} → SyncOp op → (r k : ℕ) → elim (rowOf op) [ none ↦ sync exit | some x ↦ x .step r k ] ≡ sync (syncOf op k)
-unfolding rowIn syncOf
-row-sync op32 r k = refl
-row-sync op33 r k = refl
-row-sync op34 r k = refl
-row-sync op35 r k = refl
-row-sync op36 r k = refl
-row-sync op37 r k = refl
-row-sync op38 r k = refl
-
 -- the step of a record of the plan file
 pub step-sync : (r : Record) → 32 ≤ r .op → r .op ≤ 38 → stepOf r ≡ sync (syncOf (r .op) (r .number))
-unfolding stepOf
-step-sync r least most = row-sync (sync-op (r .op) least most) (r .register) (r .number)
-
-op-same : {op : ℕ} → SyncOp op → (number : ℕ) → opOf (syncOf op number) ≡ op
-unfolding syncOf
-op-same op32 k = refl
-op-same op33 k = refl
-op-same op34 k = refl
-op-same op35 k = refl
-op-same op36 k = refl
-op-same op37 k = refl
-op-same op38 k = refl
+unfolding stepOf rowIn syncOf
+step-sync r least most =
+    each (λ op. elim (rowOf op) [ none ↦ sync exit | some x ↦ x .step (r .register) (r .number) ] ≡ sync (syncOf op (r .number))) 32 6
+    refl refl refl refl refl refl refl (r .op) least most
 
 pub op-sync : (op number : ℕ) → 32 ≤ op → op ≤ 38 → opOf (syncOf op number) ≡ op
-op-sync op number least most = op-same (sync-op op least most) number
-
-operand-same : {op : ℕ} → SyncOp op → (number : ℕ) → (op ≡ 38 → number ≡ 0) → operandOf (syncOf op number) ≡ number
 unfolding syncOf
-operand-same op32 k e = refl
-operand-same op33 k e = refl
-operand-same op34 k e = refl
-operand-same op35 k e = refl
-operand-same op36 k e = refl
-operand-same op37 k e = refl
-operand-same op38 k e = rw (e refl)
+op-sync op number least most = each (λ k. opOf (syncOf k number) ≡ k) 32 6 refl refl refl refl refl refl refl op least most
 
 pub operand-sync : (op number : ℕ) → 32 ≤ op → op ≤ 38 → (op ≡ 38 → number ≡ 0) → operandOf (syncOf op number) ≡ number
-operand-sync op number least most = operand-same (sync-op op least most) number
+unfolding syncOf
+operand-sync op number least most =
+    each (λ k. (k ≡ 38 → number ≡ 0) → operandOf (syncOf k number) ≡ number) 32 6
+    (λ e. refl) (λ e. refl) (λ e. refl) (λ e. refl) (λ e. refl) (λ e. refl) (λ e. rw (e refl)) op least most

@@ -7,19 +7,15 @@ use mathlib.Core.Bool.{Bool, true, false, cond, _||_}
 use mathlib.Core.Path.{_≡_, refl, ap, _∙_}
 use mathlib.Core.List.{List, [], _∷_, _++_}
 use lib.Dec.{eqb}
-use lib.ListN.{length, getD, set, drop, length-set}
+use lib.ListN.{length, getD, set, length-set}
 use lib.Seq.{getD-set-same, getD-set-other}
 use Rattle.protocol.specs.Rounds.{member}
-use Rattle.protocol.specs.Turns.{noneLeft}
+use Rattle.queue.specs.List.{setAll}
+use Rattle.queue.proofs.Walk.{length-all}
 use Rattle.rules.specs.declared.ruling.Ruling.{Ruling}
 use Rattle.rules.specs.Codes.{codeAfter}
 use Rattle.rules.specs.Rules.{wokenOf, joinedOf}
-use Rattle.rules.specs.Fates.{frees, Settled}
-
-pub length-frees : (ws on : List ℕ) → length (frees ws on) ≡ length on
-unfolding frees
-length-frees [] on = refl
-length-frees (w ∷ ws) on = length-frees ws (set on w 0) ∙ simp length-set
+use Rattle.rules.specs.Fates.{Settled}
 
 -- 0 stands past the end too
 zero-at : (on : List ℕ) (w : ℕ) → getD (set on w 0) w 0 ≡ 0
@@ -34,34 +30,24 @@ getD-zero on v w = go (eqb w v) refl
     go true e = rw (eqb-true w v e) (zero-at on v)
     go false e = getD-set-other on v w 0 0 (eqb-false w v e)
 
-pub getD-frees : (ws on : List ℕ) (w : ℕ) → getD (frees ws on) w 0 ≡ cond (member w ws) 0 (getD on w 0)
-unfolding frees member
-getD-frees [] on w = refl
-getD-frees (v ∷ vs) on w = getD-frees vs (set on v 0) w ∙ rw getD-zero (go (eqb w v) (member w vs) (getD on w 0))
+getD-freed : (ws on : List ℕ) (w : ℕ) → getD (setAll 0 ws on) w 0 ≡ cond (member w ws) 0 (getD on w 0)
+unfolding member
+getD-freed [] on w = refl
+getD-freed (v ∷ vs) on w = getD-freed vs (set on v 0) w ∙ rw getD-zero (go (eqb w v) (member w vs) (getD on w 0))
   where
     go : (a b : Bool) (x : ℕ) → cond b 0 (cond a 0 x) ≡ cond (a || b) 0 x
     go true true x = refl
     go true false x = refl
     go false b x = refl
 
-pub frees-none : (ws on : List ℕ) → noneLeft ws ≡ true → frees ws on ≡ on
-unfolding frees
-frees-none [] on e = refl
-frees-none (w ∷ ws) on e = cc
-
-pub frees-first : (ws on : List ℕ) → 0 < length ws → frees ws on ≡ frees (drop 1 ws) (set on (getD ws 0 0) 0)
-unfolding frees
-frees-first [] on h = absurd (omega arith)
-frees-first (w ∷ ws) on h = refl
-
 -- the holder's fate, stored last
 pub settled :
     (before : List ℕ) (r : Ruling) (h : ℕ) (qs freed : List ℕ) (code : ℕ)
-    → length before ≡ 8 → h < 8 → freed ≡ frees (wokenOf (r .wakes) qs ++ joinedOf (r .joins) qs) before → code ≡ codeAfter (r .goes)
+    → length before ≡ 8 → h < 8 → freed ≡ setAll 0 (wokenOf (r .wakes) qs ++ joinedOf (r .joins) qs) before → code ≡ codeAfter (r .goes)
     → Settled before r h qs (set freed h code)
 settled before r h qs freed code long fits same e =
     let moved = wokenOf (r .wakes) qs ++ joinedOf (r .joins) qs in
-    let left : length freed ≡ 8 = ap length same ∙ length-frees moved before ∙ long in
+    let left : length freed ≡ 8 = ap length same ∙ length-all 0 moved before ∙ long in
     record { size = simp length-set left; code = λ w. go w (eqb w h) refl left }
   where
     go :
@@ -71,4 +57,4 @@ settled before r h qs freed code long fits same e =
     go w true y left = rw (eqb-true w h y) (getD-set-same freed h code 0 (omega arith) ∙ e)
     go w false n left =
         getD-set-other freed h w code 0 (eqb-false w h n)
-        ∙ rw same (getD-frees (wokenOf (r .wakes) qs ++ joinedOf (r .joins) qs) before w)
+        ∙ rw same (getD-freed (wokenOf (r .wakes) qs ++ joinedOf (r .joins) qs) before w)

@@ -68,10 +68,6 @@ pub first-only : (ws : List ℕ) → 0 < length ws → take 1 ws ≡ getD ws 0 0
 first-only [] h = absurd (omega arith)
 first-only (w ∷ ws) h = refl
 
-pub length-one : (ws : List ℕ) → 0 < length ws → length ws ≡ length (drop 1 ws) + 1
-length-one [] h = absurd (omega arith)
-length-one (w ∷ ws) h = omega arith
-
 pub woken-short : (b : Bool) (qs : List ℕ) → length (wokenOf b qs) ≤ length qs
 woken-short true [] = omega arith
 woken-short true (w ∷ ws) = omega arith

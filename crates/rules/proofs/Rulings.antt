@@ -25,10 +25,6 @@ calm w e h =
       rises = h;
     }
 
-pub some-in : (ws : List ℕ) → noneLeft ws ≡ false → 0 < length ws
-some-in [] e = let z : _≡_ {A = ℕ} 0 1 = cc in omega arith
-some-in (w ∷ ws) e = omega arith
-
 pub wakes-none : (qs : List ℕ) (held : ℕ) → noneLeft qs ≡ true → signalRule qs held ≡ rounds.ruling committed held (givesAtZero held) [] [] 255
 wakes-none [] held e = refl
 wakes-none (w ∷ ws) held e = cc

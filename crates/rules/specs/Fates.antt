@@ -2,20 +2,15 @@
 use Prim.Native.Nat.{ℕ, _<_}
 use mathlib.Core.Bool.{Bool, true, false, cond}
 use mathlib.Core.Path.{_≡_}
-use mathlib.Core.List.{List, [], _∷_, _++_}
+use mathlib.Core.List.{List, _++_}
 use lib.Dec.{eqb}
-use lib.ListN.{length, getD, set}
+use lib.ListN.{length, getD}
 use Rattle.protocol.specs.Rounds.{member}
 use Rattle.queue.specs.declared.Queue.{Queue}
 use Rattle.queue.specs.List.{listOf, Good, Below}
 use Rattle.rules.specs.declared.ruling.Ruling.{Ruling}
 use Rattle.rules.specs.Codes.{codeAfter}
 use Rattle.rules.specs.Rules.{wokenOf, joinedOf}
-
--- the fates' codes where none of these workers waits any more
-unfoldable pub frees : List ℕ → List ℕ → List ℕ
-frees [] on = on
-frees (w ∷ ws) on = frees ws (set on w 0)
 
 pub record Freeing (wakes joins : Bool) (queued : Queue) : Type 0 where
   pub good : Good queued

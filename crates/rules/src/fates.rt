@@ -8,10 +8,10 @@ ghost use mathlib.Core.List.{_++_};
 ghost use Prim.Native.Nat.{_<_};
 ghost use lib.ListN.{length};
 ghost use Rattle.protocol.specs.Rounds.{arrivedAfter};
-ghost use Rattle.queue.specs.List.{listOf, Good, Below};
+ghost use Rattle.queue.specs.List.{listOf, Good, Below, setAll};
 ghost use Rattle.rules.specs.Codes.{goesOf, codeAfter};
 ghost use Rattle.rules.specs.Rules.{wokenOf, joinedOf};
-ghost use Rattle.rules.specs.Fates.{frees, Freeing, Settled};
+ghost use Rattle.rules.specs.Fates.{Freeing, Settled};
 
 // The code of the holder's fate.
 pub fn code_after(goes: Goes) -> u64
@@ -38,7 +38,7 @@ pub fn arrived_after(goes: Goes) -> bool
 // None of these workers waits any more.
 fn free(on: &mut [u64; 8], queued: Queue)
     requires { ⌜ Good queued × Below 8 (listOf queued) ⌝ }
-    ensures { λ r. ⌜ now (on .exit) ≡ frees (listOf queued) (now (on .entry)) ⌝ }
+    ensures { λ r. ⌜ now (on .exit) ≡ setAll 0 (listOf queued) (now (on .entry)) ⌝ }
 {
     let mut left = queued;
     while !left.is_empty() {
@@ -50,7 +50,7 @@ fn free(on: &mut [u64; 8], queued: Queue)
 
 fn free_moved(on: &mut [u64; 8], wakes: bool, joins: bool, queued: Queue)
     requires { ⌜ Freeing wakes joins queued ⌝ }
-    ensures { λ r. ⌜ now (on .exit) ≡ frees (wokenOf wakes (listOf queued) ++ joinedOf joins (listOf queued)) (now (on .entry)) ⌝ }
+    ensures { λ r. ⌜ now (on .exit) ≡ setAll 0 (wokenOf wakes (listOf queued) ++ joinedOf joins (listOf queued)) (now (on .entry)) ⌝ }
 {
     if joins {
         free(on, queued);

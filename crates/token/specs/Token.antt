@@ -2,11 +2,11 @@
 use Prim.Native.Nat.{ℕ, _+_, _-_}
 use mathlib.Core.Bool.{Bool, true, false, cond}
 use mathlib.Core.Path.{_≡_}
-use mathlib.Core.List.{List, [], _∷_}
+use mathlib.Core.List.{List, []}
 use lib.Dec.{eqb}
 use lib.ListN.{length, getD, set}
 use Rattle.protocol.specs.Turns.{noneLeft}
-use Rattle.queue.specs.List.{listOf, Holds}
+use Rattle.queue.specs.List.{listOf, Holds, setAll}
 use Rattle.queue.specs.declared.Queue.{Queue}
 use Rattle.token.specs.declared.Round.{Round}
 
@@ -16,8 +16,7 @@ arrivedCan list away w can =
     cond (eqb (away - 1) 0) (set (set can w false) (getD list 0 0) true) (set can w false)
 
 unfoldable pub raised : List ℕ → List Bool → List Bool
-raised [] can = can
-raised (w ∷ ws) can = raised ws (set can w true)
+raised = setAll true
 
 -- the next round, with its list
 pub record NewRound (next : Queue) (h rounds : ℕ) (can : List Bool) (r : Round) (can′ : List Bool) : Type 0 where

@@ -1,36 +1,17 @@
 -- A register's digit, taken out and put in by shifts. Assumes nothing.
 use Prim.Native.Nat.{ℕ, _+_, _-_, _*_, _/_, _%_, _^_, _≤_, _<_}
-use native.Mathlib.Nat.{eq-or-lt-of-le}
 use native.Mathlib.Omega.{arith}
-use mathlib.Core.Logic.{⊎-elim}
-use mathlib.Core.Path.{_≡_, refl, subst}
+use mathlib.Core.Path.{_≡_, refl}
 use mathlib.Core.List.{List, [], _∷_}
 use lib.ListN.{getD, set}
+use Rattle.protocol.proofs.Each.{each}
 use Rattle.worker.specs.Private.{digit}
-
-data Register : ℕ → Type 0 where
-  first : Register 0
-  second : Register 1
-  third : Register 2
-  fourth : Register 3
-
-down : (n : ℕ) {r : ℕ} → Register n → (n < r → Register r) → n ≤ r → Register r
-down n o above h = ⊎-elim (λ e. subst (λ (k : ℕ). Register k) e o) above (eq-or-lt-of-le h)
-
-named : (r : ℕ) → r < 4 → Register r
-named r l = down 0 first (down 1 second (down 2 third (down 3 fourth (λ h. absurd (omega arith))))) (omega arith)
 
 abbrev digits : ℕ → List ℕ
 digits n = digit n 0 ∷ digit n 1 ∷ digit n 2 ∷ digit n 3 ∷ []
 
 pub digit-at : (n r : ℕ) → r < 4 → digit n r ≡ getD (digits n) r 0
-digit-at n r l = go (named r l)
-  where
-    go : {k : ℕ} → Register k → digit n k ≡ getD (digits n) k 0
-    go first = refl
-    go second = refl
-    go third = refl
-    go fourth = refl
+digit-at n r l = each (λ k. digit n k ≡ getD (digits n) k 0) 0 3 refl refl refl refl r (omega arith) (omega arith)
 
 -- a digit in its place, as a shift makes it
 abbrev pub shifted : ℕ → ℕ → ℕ
@@ -40,22 +21,12 @@ abbrev pub replaced : ℕ → ℕ → ℕ → ℕ
 replaced n r value = n - shifted (digit n r) r + shifted value r
 
 pub take-fits : (n r : ℕ) → r < 4 → n < 18446744073709551616 → shifted (digit n r) r ≤ n
-take-fits n r l small = go (named r l)
-  where
-    go : {k : ℕ} → Register k → shifted (digit n k) k ≤ n
-    go first = omega arith
-    go second = omega arith
-    go third = omega arith
-    go fourth = omega arith
+take-fits n r l small =
+    each (λ k. shifted (digit n k) k ≤ n) 0 3 (omega arith) (omega arith) (omega arith) (omega arith) r (omega arith) (omega arith)
 
 pub put-fits : (n r value : ℕ) → r < 4 → n < 18446744073709551616 → value < 65536 → replaced n r value < 18446744073709551616
-put-fits n r value l small v = go (named r l)
-  where
-    go : {k : ℕ} → Register k → replaced n k value < 18446744073709551616
-    go first = omega arith
-    go second = omega arith
-    go third = omega arith
-    go fourth = omega arith
+put-fits n r value l small v =
+    each (λ k. replaced n k value < 18446744073709551616) 0 3 (omega arith) (omega arith) (omega arith) (omega arith) r (omega arith) (omega arith)
 
 abbrev sum : ℕ → ℕ → ℕ → ℕ → ℕ
 sum a b c d = a + 65536 * b + 4294967296 * c + 281474976710656 * d
@@ -106,10 +77,10 @@ module _ (n a b c d v : ℕ) (e : n ≡ sum a b c d) (la : a < 65536) (lb : b < 
   at-3 = omega arith
 
 pub replaced-digits : (n r value : ℕ) → r < 4 → n < 18446744073709551616 → value < 65536 → digits (replaced n r value) ≡ set (digits n) r value
-replaced-digits n r v l small lv = go (named r l)
-  where
-    go : {k : ℕ} → Register k → digits (replaced n k v) ≡ set (digits n) k v
-    go first = digits-sum _ _ _ _ (omega arith) (omega arith) (omega arith) (omega arith) (at-0 n _ _ _ _ v (sum-digits n small) (omega arith) (omega arith) (omega arith) (omega arith) lv)
-    go second = digits-sum _ _ _ _ (omega arith) (omega arith) (omega arith) (omega arith) (at-1 n _ _ _ _ v (sum-digits n small) (omega arith) (omega arith) (omega arith) (omega arith) lv)
-    go third = digits-sum _ _ _ _ (omega arith) (omega arith) (omega arith) (omega arith) (at-2 n _ _ _ _ v (sum-digits n small) (omega arith) (omega arith) (omega arith) (omega arith) lv)
-    go fourth = digits-sum _ _ _ _ (omega arith) (omega arith) (omega arith) (omega arith) (at-3 n _ _ _ _ v (sum-digits n small) (omega arith) (omega arith) (omega arith) (omega arith) lv)
+replaced-digits n r v l small lv =
+    each (λ k. digits (replaced n k v) ≡ set (digits n) k v) 0 3
+    (digits-sum _ _ _ _ (omega arith) (omega arith) (omega arith) (omega arith) (at-0 n _ _ _ _ v (sum-digits n small) (omega arith) (omega arith) (omega arith) (omega arith) lv))
+    (digits-sum _ _ _ _ (omega arith) (omega arith) (omega arith) (omega arith) (at-1 n _ _ _ _ v (sum-digits n small) (omega arith) (omega arith) (omega arith) (omega arith) lv))
+    (digits-sum _ _ _ _ (omega arith) (omega arith) (omega arith) (omega arith) (at-2 n _ _ _ _ v (sum-digits n small) (omega arith) (omega arith) (omega arith) (omega arith) lv))
+    (digits-sum _ _ _ _ (omega arith) (omega arith) (omega arith) (omega arith) (at-3 n _ _ _ _ v (sum-digits n small) (omega arith) (omega arith) (omega arith) (omega arith) lv))
+    r (omega arith) (omega arith)

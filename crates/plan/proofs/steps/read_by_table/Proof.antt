@@ -8,10 +8,12 @@ use Rattle.protocol.specs.Format.{isBarrier}
 use Rattle.protocol.specs.Refusals as protocol
 use Rattle.plan.specs.Answer.{decodedOf, ruleOf}
 use Rattle.plan.specs.Reading.{recordAt, before, verdictFrom}
+use Rattle.plan.specs.Stepping.{laterRuling}
 use Rattle.plan.specs.declared.table.Row.{Row}
+use Rattle.plan.specs.declared.decode.Record.{Record}
 use Rattle.plan.specs.declared.decode.Decoded.the-variants.{Read, Unmarked}
 use Rattle.plan.proofs.Readings.{length-before, unmarked-step, not-refused}
-use Rattle.plan.proofs.Stepped.{Kept, kept-first, inside, later-step, worker-below, step-more, all-read, firsts-right}
+use Rattle.plan.proofs.Stepped.{Kept, OneStep, kept-first, inside, later-step, worker-below, step-more, all-read, firsts-right}
 use Rattle.plan.proofs.steps.read_by_table.Statement.{statement}
 use Rattle.plan.proofs.steps.read_by_table.Tie as tie
 
@@ -79,23 +81,48 @@ later-ruling-requires c κs =
 enum-known-ruling : tie.Need-enum-known-ruling Inv-loop μ-loop
 enum-known-ruling c = search needs
 
+-- the step record at hand, from its ruling on
+module _ (c : tie.After-later-ruling Inv-loop μ-loop) where
+  abbrev at : tie.At-loop Inv-loop μ-loop
+  at = c .before .before .before .before .before .before .before .before .before
+
+  abbrev start : tie.Start Inv-loop μ-loop
+  start = at .before .before
+
+  abbrev body : Record
+  body = c .before .before .before .before .before .r .given .0 .0
+
+  one-step : OneStep (start .args .file .now) (start .args .count) (start .args .n) (start .args .sizes .now) (at .loop .opened) (at .loop .firsts) (at .loop .i) body
+  one-step =
+      let so = start .pre .1 .1 in
+      let inv = at .loop .inv in
+      let most = c .before .before .before .before .before .before .before .before .loop-test .taken in
+      record {
+        least = omega (arith, so .least, inv .0);
+        most = most;
+        eight = so .eight;
+        kept = inv .4;
+        noBarrier = λ z. subst⁻¹ (λ (j : ℕ). isBarrier (recordAt (start .args .file .now) j) ≡ false) (inv .3 z) (so .noBarrier (omega (arith, inv .3 z, most)));
+        read = sym (c .before .before .before .before .before .before .before .decode .ensures) ∙ c .before .before .before .before .before .r .given .1;
+      }
+
+  taken : {x : protocol.Rule} → ruleOf (c .later-ruling .result) ≡ x
+      → laterRuling (start .args .n) (at .loop .opened) (start .args .sizes .now) (at .loop .firsts) (at .loop .i) body ≡ x
+  taken e = sym (c .later-ruling .ensures) ∙ e
+
+  goes-on : {x : protocol.Rule} → ruleOf (c .later-ruling .result) ≡ x
+      → protocol.ruled x (at .loop .i) (verdictFrom (start .args .file .now) (start .args .count) (at .loop .i + 1))
+      ≡ verdictFrom (start .args .file .now) (start .args .count) (start .args .start)
+  goes-on e = sym (later-step one-step (taken e)) ∙ at .loop .inv .5
+
+  fits : ruleOf (c .later-ruling .result) ≡ protocol.holds → body .worker < 8
+  fits e = omega (arith, worker-below one-step (taken e), one-step .eight)
+
 returns-2 : tie.Need-returns-2 Inv-loop μ-loop
 returns-2 c =
-    let a = c .before .before .before .before .before .before .before .before .before .before .before .before .before .before .args in
-    let so = c .before .before .before .before .before .before .before .before .before .before .before .before .before .before .pre .1 .1 in
-    let file = a .file .now in
-    let i = c .before .before .before .before .before .before .before .before .before .before .before .before .loop .i in
-    let inv = c .before .before .before .before .before .before .before .before .before .before .before .before .loop .inv in
-    let r = c .before .before .before .before .before .before .before .before .r .given .0 .0 in
-    let e : decodedOf (recordAt file i) ≡ Read r = sym (c .before .before .before .before .before .before .before .before .before .before .decode .ensures) ∙ c .before .before .before .before .before .before .before .before .r .given .1 in
-    let least : 1 ≤ i = let l = so .least in let m = inv .0 in omega arith in
-    let noBarrier : c .before .before .before .before .before .before .before .before .before .before .before .before .loop .opened ≡ 0 → isBarrier (recordAt file i) ≡ false
-    = λ z. let at = inv .3 z in subst⁻¹ (λ (j : ℕ). isBarrier (recordAt file j) ≡ false) at (so .noBarrier (let t = c .before .before .before .before .before .before .before .before .before .before .before .loop-test .taken in omega arith)) in
-    let rule = sym (c .before .before .before .later-ruling .ensures) ∙ ap ruleOf (c .before .ruling .given .1) in
-    let step = later-step file (a .count) (a .n) (a .sizes .now) _ _ i least (c .before .before .before .before .before .before .before .before .before .before .before .loop-test .taken) (so .eight) (inv .4) noBarrier r e in
     record {
-      verdict = sym (step ∙ ap (λ (x : protocol.Rule). protocol.ruled x i (verdictFrom file (a .count) (i + 1))) rule) ∙ inv .5;
-      nine = inv .4 .nine;
+      verdict = goes-on (c .before .before .before) (ap ruleOf (c .before .ruling .given .1));
+      nine = one-step (c .before .before .before) .kept .nine;
       read = λ q. not-refused _ _ q;
       right = λ q. not-refused _ _ q;
       sizesRight = λ q. not-refused _ _ q;
@@ -108,38 +135,10 @@ cast-worker : tie.Need-cast-worker Inv-loop μ-loop
 cast-worker c = search needs
 
 open-workers-requires : tie.Need-open-workers-requires Inv-loop μ-loop
-open-workers-requires c κs =
-    let a = c .before .before .before .before .before .before .before .before .before .before .before .before .before .before .before .args in
-    let so = c .before .before .before .before .before .before .before .before .before .before .before .before .before .before .before .pre .1 .1 in
-    let file = a .file .now in
-    let i = c .before .before .before .before .before .before .before .before .before .before .before .before .before .loop .i in
-    let inv = c .before .before .before .before .before .before .before .before .before .before .before .before .before .loop .inv in
-    let r = c .before .before .before .before .before .before .before .before .before .r .given .0 .0 in
-    let e : decodedOf (recordAt file i) ≡ Read r = sym (c .before .before .before .before .before .before .before .before .before .before .before .decode .ensures) ∙ c .before .before .before .before .before .before .before .before .before .r .given .1 in
-    let least : 1 ≤ i = let l = so .least in let m = inv .0 in omega arith in
-    let noBarrier : c .before .before .before .before .before .before .before .before .before .before .before .before .before .loop .opened ≡ 0 → isBarrier (recordAt file i) ≡ false
-    = λ z. let at = inv .3 z in subst⁻¹ (λ (j : ℕ). isBarrier (recordAt file j) ≡ false) at (so .noBarrier (let t = c .before .before .before .before .before .before .before .before .before .before .before .before .loop-test .taken in omega arith)) in
-    let rule = sym (c .before .before .before .before .later-ruling .ensures) ∙ ap ruleOf (c .before .before .enum-told2 .given .1) in
-    let w : r .worker < a .n = worker-below file (a .count) (a .n) (a .sizes .now) _ _ i least (c .before .before .before .before .before .before .before .before .before .before .before .before .loop-test .taken) (so .eight) (inv .4) noBarrier r e rule in
-    let n = so .eight in
-    omega arith
+open-workers-requires c κs = omega (arith, fits (c .before .before .before .before) (ap ruleOf (c .before .before .enum-told2 .given .1)))
 
 add-opened : tie.Need-add-opened Inv-loop μ-loop
-add-opened c =
-    let a = c .before .before .before .before .before .before .before .before .before .before .before .before .before .before .before .before .args in
-    let so = c .before .before .before .before .before .before .before .before .before .before .before .before .before .before .before .before .pre .1 .1 in
-    let file = a .file .now in
-    let i = c .before .before .before .before .before .before .before .before .before .before .before .before .before .before .loop .i in
-    let inv = c .before .before .before .before .before .before .before .before .before .before .before .before .before .before .loop .inv in
-    let r = c .before .before .before .before .before .before .before .before .before .before .r .given .0 .0 in
-    let e : decodedOf (recordAt file i) ≡ Read r = sym (c .before .before .before .before .before .before .before .before .before .before .before .before .decode .ensures) ∙ c .before .before .before .before .before .before .before .before .before .before .r .given .1 in
-    let least : 1 ≤ i = let l = so .least in let m = inv .0 in omega arith in
-    let noBarrier : c .before .before .before .before .before .before .before .before .before .before .before .before .before .before .loop .opened ≡ 0 → isBarrier (recordAt file i) ≡ false
-    = λ z. let at = inv .3 z in subst⁻¹ (λ (j : ℕ). isBarrier (recordAt file j) ≡ false) at (so .noBarrier (let t = c .before .before .before .before .before .before .before .before .before .before .before .before .before .loop-test .taken in omega arith)) in
-    let rule = sym (c .before .before .before .before .before .later-ruling .ensures) ∙ ap ruleOf (c .before .before .before .enum-told2 .given .1) in
-    let w : r .worker < a .n = worker-below file (a .count) (a .n) (a .sizes .now) _ _ i least (c .before .before .before .before .before .before .before .before .before .before .before .before .before .loop-test .taken) (so .eight) (inv .4) noBarrier r e rule in
-    let n = so .eight in
-    omega arith
+add-opened c = omega (arith, fits (c .before .before .before .before .before) (ap ruleOf (c .before .before .before .enum-told2 .given .1)))
 
 add-i : tie.Need-add-i Inv-loop μ-loop
 add-i c = search needs
@@ -149,26 +148,15 @@ loop-less c = search needs
 
 loop-again : tie.Need-loop-again Inv-loop μ-loop
 loop-again c =
-    let a = c .before .before .before .before .before .before .before .before .before .before .before .before .before .before .before .before .args in
-    let so = c .before .before .before .before .before .before .before .before .before .before .before .before .before .before .before .before .pre .1 .1 in
-    let file = a .file .now in
-    let i = c .before .before .before .before .before .before .before .before .before .before .before .before .before .before .loop .i in
-    let inv = c .before .before .before .before .before .before .before .before .before .before .before .before .before .before .loop .inv in
-    let r = c .before .before .before .before .before .before .before .before .before .before .r .given .0 .0 in
-    let e : decodedOf (recordAt file i) ≡ Read r = sym (c .before .before .before .before .before .before .before .before .before .before .before .before .decode .ensures) ∙ c .before .before .before .before .before .before .before .before .before .before .r .given .1 in
-    let least : 1 ≤ i = let l = so .least in let m = inv .0 in omega arith in
-    let noBarrier : c .before .before .before .before .before .before .before .before .before .before .before .before .before .before .loop .opened ≡ 0 → isBarrier (recordAt file i) ≡ false
-    = λ z. let at = inv .3 z in subst⁻¹ (λ (j : ℕ). isBarrier (recordAt file j) ≡ false) at (so .noBarrier (let t = c .before .before .before .before .before .before .before .before .before .before .before .before .before .loop-test .taken in omega arith)) in
-    let rule = sym (c .before .before .before .before .before .later-ruling .ensures) ∙ ap ruleOf (c .before .before .before .enum-told2 .given .1) in
-    let w : r .worker < a .n = worker-below file (a .count) (a .n) (a .sizes .now) _ _ i least (c .before .before .before .before .before .before .before .before .before .before .before .before .before .loop-test .taken) (so .eight) (inv .4) noBarrier r e rule in
-    let n = so .eight in
-    let step = later-step file (a .count) (a .n) (a .sizes .now) _ _ i least (c .before .before .before .before .before .before .before .before .before .before .before .before .before .loop-test .taken) (so .eight) (inv .4) noBarrier r e in (
+    let l = c .before .before .before .before .before in
+    let rule = ap ruleOf (c .before .before .before .enum-told2 .given .1) in
+    let below = worker-below (one-step l) (taken l rule) in (
       omega arith,
       omega arith,
       omega arith,
       λ z. absurd (omega arith),
-      step-more file (a .count) (a .n) (a .sizes .now) _ _ i least (c .before .before .before .before .before .before .before .before .before .before .before .before .before .loop-test .taken) (so .eight) (inv .4) noBarrier r _ e rule (c .open-workers .ensures),
-      sym (step ∙ ap (λ (x : protocol.Rule). protocol.ruled x i (verdictFrom file (a .count) (i + 1))) rule) ∙ inv .5,
+      step-more (one-step l) (taken l rule) (c .open-workers .ensures),
+      goes-on l rule,
     )
 
 open-workers-requires-2 : tie.Need-open-workers-requires-2 Inv-loop μ-loop

@@ -8,8 +8,8 @@ use denote.Ref.{now}
 use lib.Dec.{eqb}
 use lib.ListN.{length, getD}
 use Rattle.queue.specs.List.{listOf, Below, matches}
-use Rattle.queue.proofs.Laws.{some-left, below-first, below-rest}
-use Rattle.queue.proofs.Scan.{Scan, beq-cond, scan-start, scan-end, scan-less, scan-room, scan-pass, scan-keep}
+use Rattle.queue.proofs.Laws.{some-left, rest-less, below-first, below-rest}
+use Rattle.queue.proofs.Scan.{Scan, beq-cond, scan-start, scan-end, scan-room, scan-pass, scan-keep}
 use Rattle.queue.proofs.Queue.matching.Statement.{statement}
 use Rattle.queue.proofs.Queue.matching.Tie as tie
 
@@ -57,8 +57,7 @@ rest-requires : tie.Need-rest-requires Inv-loop μ-loop
 rest-requires c κs = (c .before .before .before .before .before .loop .inv .0 .left, some (c .before .before .before))
 
 loop-less : tie.Need-loop-less Inv-loop μ-loop
-loop-less c =
-    scan-less (c .before .before .before .before .before .before .loop .inv .0) (some (c .before .before .before .before)) (c .rest .ensures)
+loop-less c = rest-less (c .before .before .before .before .before .before .loop .left) (some (c .before .before .before .before)) (c .rest .ensures)
 
 loop-again : tie.Need-loop-again Inv-loop μ-loop
 loop-again c =

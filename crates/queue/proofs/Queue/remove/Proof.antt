@@ -8,8 +8,8 @@ use mathlib.Core.List.{[], _∷_}
 use lib.ListN.{length}
 use Rattle.protocol.specs.Rounds.{member}
 use Rattle.queue.specs.List.{listOf}
-use Rattle.queue.proofs.Laws.{some-left, first-small}
-use Rattle.queue.proofs.Scan.{Scan, others, itself, scan-start, scan-end, scan-less, scan-room, scan-pass, scan-keep}
+use Rattle.queue.proofs.Laws.{some-left, rest-less, first-small}
+use Rattle.queue.proofs.Scan.{Scan, others, itself, scan-start, scan-end, scan-room, scan-pass, scan-keep}
 use Rattle.queue.proofs.Queue.remove.Statement.{statement}
 use Rattle.queue.proofs.Queue.remove.Tie as tie
 
@@ -44,7 +44,7 @@ rest-requires : tie.Need-rest-requires Inv-loop μ-loop
 rest-requires c κs = (c .before .before .before .before .loop .inv .left, some (c .before .before))
 
 loop-less : tie.Need-loop-less Inv-loop μ-loop
-loop-less c = scan-less (c .before .before .before .before .before .loop .inv) (some (c .before .before .before)) (c .rest .ensures)
+loop-less c = rest-less (c .before .before .before .before .before .loop .left) (some (c .before .before .before)) (c .rest .ensures)
 
 loop-again : tie.Need-loop-again Inv-loop μ-loop
 loop-again c =

@@ -1,20 +1,17 @@
--- `free` meets its contract. The loop's invariant: freeing those left, as things are, is freeing all as they were. Assumes nothing.
+-- `free` meets its contract: a walk. Assumes nothing.
 use borrow.Author.Needs.{needs}
 use native.Mathlib.Omega.{arith}
-use borrow.Author.Tests.{not-false}
 use Prim.Native.Nat.{_<_}
-use mathlib.Core.Path.{_≡_, refl, ap, sym, _∙_}
+use mathlib.Core.Path.{refl}
 use lib.ListN.{length}
-use Rattle.queue.specs.List.{listOf, Good, Below}
-use Rattle.queue.proofs.Laws.{some-left, below-first, below-rest}
-use Rattle.rules.specs.Fates.{frees}
-use Rattle.rules.proofs.Freed.{frees-none, frees-first}
-use Rattle.rules.proofs.Moving.{length-one}
+use Rattle.queue.specs.List.{listOf}
+use Rattle.queue.proofs.Laws.{some-left, rest-less}
+use Rattle.queue.proofs.Walk.{Walk, walk-worker, walk-on, walk-end}
 use Rattle.rules.proofs.fates.free.Statement.{statement}
 use Rattle.rules.proofs.fates.free.Tie as tie
 
 abbrev Inv-loop : tie.InvT-loop
-Inv-loop on₀ left₀ on left = Good left × Below 8 (listOf left) × (frees (listOf left) on ≡ frees (listOf left₀) on₀)
+Inv-loop on₀ left₀ on left = Walk 0 (listOf left₀) on₀ left on
 
 abbrev μ-loop : tie.MeasureT-loop
 μ-loop on₀ left₀ on left = length (listOf left)
@@ -22,13 +19,8 @@ abbrev μ-loop : tie.MeasureT-loop
 some : (c : tie.Then1 Inv-loop μ-loop) → 0 < length (listOf (c .before .before .loop .left))
 some c = some-left (c .before .before .loop .left) (c .before .is-empty .ensures) (c .if1 .taken)
 
-worker : (c : tie.After-first Inv-loop μ-loop) → c .first .result < 8
-worker c =
-    let at = c .before .before .before .loop in
-    omega (arith, c .first .ensures, below-first 8 (listOf (at .left)) (some (c .before)) (at .inv .1))
-
 loop-holds : tie.Need-loop-holds Inv-loop μ-loop
-loop-holds c = (c .pre .0, c .pre .1, refl)
+loop-holds c = record { left = c .pre .0; below = c .pre .1; same = refl }
 
 is-empty-requires : tie.Need-is-empty-requires Inv-loop μ-loop
 is-empty-requires c κs = search needs
@@ -37,29 +29,22 @@ first-requires : tie.Need-first-requires Inv-loop μ-loop
 first-requires c κs = some c
 
 mul-on : tie.Need-mul-on Inv-loop μ-loop
-mul-on c = omega (arith, worker c)
+mul-on c = omega (arith, walk-worker (c .before .before .before .loop .inv) (some (c .before)) (c .first .ensures))
 
 element-write-on : tie.Need-element-write-on Inv-loop μ-loop
-element-write-on c = omega (arith, worker c)
+element-write-on c = omega (arith, walk-worker (c .before .before .before .loop .inv) (some (c .before)) (c .first .ensures))
 
 rest-requires : tie.Need-rest-requires Inv-loop μ-loop
-rest-requires c κs = (c .before .before .before .loop .inv .0, some (c .before))
+rest-requires c κs = (c .before .before .before .loop .inv .left, some (c .before))
 
 loop-less : tie.Need-loop-less Inv-loop μ-loop
-loop-less c = omega (arith, ap length (c .rest .ensures .list), length-one (listOf (c .before .before .before .before .loop .left)) (some (c .before .before)))
+loop-less c = rest-less (c .before .before .before .before .loop .left) (some (c .before .before)) (c .rest .ensures)
 
 loop-again : tie.Need-loop-again Inv-loop μ-loop
-loop-again c = let at = c .before .before .before .before .loop in
-    let rest = c .rest .ensures in
-    let ws = listOf (at .left) in (
-      rest .good,
-      rw (rest .list) (below-rest 8 ws (at .inv .1)),
-      rw (rest .list, c .before .first .ensures) (sym (frees-first ws (at .on) (some (c .before .before))) ∙ at .inv .2),
-    )
+loop-again c = walk-on (c .before .before .before .before .loop .inv) (some (c .before .before)) (c .before .first .ensures) (c .rest .ensures)
 
 returns : tie.Need-returns Inv-loop μ-loop
-returns c = let at = c .before .before .loop in
-    sym (frees-none (listOf (at .left)) (at .on) (sym (c .before .is-empty .ensures) ∙ not-false _ (c .if1 .left))) ∙ at .inv .2
+returns c = walk-end (c .before .before .loop .inv) (c .before .is-empty .ensures) (c .if1 .left)
 
 pub free-spec : {M : Type 1} → statement M
 free-spec =

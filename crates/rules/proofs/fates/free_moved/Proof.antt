@@ -4,7 +4,6 @@ use Prim.Native.Nat.{_<_}
 use native.Mathlib.Omega.{arith}
 use Rattle.queue.specs.List.{listOf}
 use Rattle.queue.proofs.Laws.{below-first}
-use Rattle.rules.specs.Fates.{frees}
 use Rattle.rules.proofs.Moving.{first-only, not-both}
 use Rattle.rules.proofs.fates.free_moved.Statement.{statement}
 use Rattle.rules.proofs.fates.free_moved.Tie as tie
@@ -32,13 +31,11 @@ element-write-on : tie.Need-element-write-on
 element-write-on c = omega (arith, worker c)
 
 returns-2 : tie.Need-returns-2
-unfolding frees
 returns-2 c = let s = c .before .before .before in
     let wakes = c .before .if2 .taken in
     rw (wakes, c .before .before .if1 .left, first-only (listOf (s .args .queued)) (s .pre .some wakes), c .first .ensures)
 
 returns-3 : tie.Need-returns-3
-unfolding frees
 returns-3 c = rw (c .if2 .left, c .before .if1 .left)
 
 pub free-moved-spec : {M : Type 1} → statement M

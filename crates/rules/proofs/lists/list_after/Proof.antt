@@ -5,7 +5,8 @@ use mathlib.Core.Path.{ap}
 use lib.ListN.{length, length-append}
 use Rattle.queue.specs.List.{listOf}
 use Rattle.rules.specs.Rules.{wokenOf}
-use Rattle.rules.proofs.Moving.{length-one, woken-short}
+use Rattle.queue.proofs.Laws.{length-rest}
+use Rattle.rules.proofs.Moving.{woken-short}
 use Rattle.rules.proofs.lists.list_after.Statement.{statement}
 use Rattle.rules.proofs.lists.list_after.Tie as tie
 
@@ -14,7 +15,7 @@ rest-requires c κs = search needs
 
 wake-requires : tie.Need-wake-requires
 wake-requires c κs = let s = c .before in
-    (c .rest .ensures .good, omega (arith, ap length (c .rest .ensures .list), length-one (listOf (s .args .list)) (s .pre .held), s .pre .fits), s .pre .some)
+    (c .rest .ensures .good, omega (arith, ap length (c .rest .ensures .list), length-rest (listOf (s .args .list)) (s .pre .held), s .pre .fits), s .pre .some)
 
 enum-told : tie.Need-enum-told
 enum-told c = search needs
@@ -30,7 +31,7 @@ cons-requires c κs = let s = c .before .before .before .before in
         length-append (wokenOf (a .wakes) (listOf (a .queued))) (listOf (rest .result)),
         woken-short (a .wakes) (listOf (a .queued)),
         ap length (rest .ensures .list),
-        length-one (listOf (a .list)) (s .pre .held),
+        length-rest (listOf (a .list)) (s .pre .held),
         s .pre .fits,
       ),
       s .pre .holder,

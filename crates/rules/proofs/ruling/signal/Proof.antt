@@ -3,8 +3,8 @@ use borrow.Author.Needs.{needs}
 use native.Mathlib.Omega.{arith}
 use mathlib.Core.Path.{refl, sym, _∙_}
 use Rattle.queue.specs.List.{listOf}
-use Rattle.queue.proofs.Laws.{below-first}
-use Rattle.rules.proofs.Rulings.{calm, some-in, wakes-none, wakes-first}
+use Rattle.queue.proofs.Laws.{some-in, below-first}
+use Rattle.rules.proofs.Rulings.{calm, wakes-none, wakes-first}
 use Rattle.rules.proofs.ruling.signal.Statement.{statement}
 use Rattle.rules.proofs.ruling.signal.Tie as tie
 

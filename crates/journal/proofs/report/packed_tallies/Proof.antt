@@ -1,0 +1,46 @@
+use borrow.Author.Needs.{needs}
+use native.Mathlib.Omega.{arith}
+use Rattle.journal.proofs.Packing.{packs-tallies}
+use Rattle.journal.proofs.report.packed_tallies.Statement.{statement}
+use Rattle.journal.proofs.report.packed_tallies.Tie as tie
+
+mul-counts : tie.Need-mul-counts
+mul-counts c = search needs
+
+add-counts : tie.Need-add-counts
+add-counts c = search needs
+
+mul-last : tie.Need-mul-last
+mul-last c = search needs
+
+add-last : tie.Need-add-last
+add-last c = search needs
+
+mul-result : tie.Need-mul-result
+mul-result c = search needs
+
+add-result : tie.Need-add-result
+add-result c = search needs
+
+mul-result-2 : tie.Need-mul-result-2
+mul-result-2 c = search needs
+
+add-result-2 : tie.Need-add-result-2
+add-result-2 c = search needs
+
+returns : tie.Need-returns
+returns c = packs-tallies (c .args .end) (c .args .workers) (c .args .moves) (c .args .rounds) (c .args .records) (omega arith) (omega arith) (omega arith) (omega arith)
+
+pub packed-tallies-spec : {M : Type 1} → statement M
+packed-tallies-spec =
+    tie.close
+    (tie.spec
+    mul-counts
+    add-counts
+    mul-last
+    add-last
+    mul-result
+    add-result
+    mul-result-2
+    add-result-2
+    returns)
