@@ -549,8 +549,11 @@ static void move(struct engine *e, struct worker *w)
 static void play(struct engine *e, const uint8_t *turns, size_t turns_len)
 {
     for (size_t i = 0; i < turns_len; i++)
-        if (e->may[turns[i]] != PASS)
+        if (e->may[turns[i]] != PASS) {
             move(e, &e->workers[turns[i]]);
+            if (e->list.len == 0) /* the plan has ended: the rest passes */
+                return;
+        }
 }
 
 /* --- The run ------------------------------------------------------------ */

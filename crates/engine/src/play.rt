@@ -88,6 +88,14 @@ pub fn play(
                 work,
             );
             i += 1;
+            // After the end every turn passes.
+            let list = t.lists.list;
+            if list.is_empty() {
+                return Played {
+                    tally: t,
+                    fates: on,
+                };
+            }
         }
     }
     Played {
