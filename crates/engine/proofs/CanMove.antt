@@ -19,7 +19,7 @@ use Rattle.engine.specs.Shows.{absent}
 
 -- tests
 
-pub or-right : (b : Bool) {c : Bool} → c ≡ true → (b || c) ≡ true
+or-right : (b : Bool) {c : Bool} → c ≡ true → (b || c) ≡ true
 or-right true e = refl
 or-right false e = e
 

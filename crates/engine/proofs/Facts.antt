@@ -5,13 +5,12 @@ use native.Mathlib.Omega.{arith}
 use mathlib.Core.Bool.{Bool, true}
 use mathlib.Core.Path.{_≡_, refl, sym, ap, _∙_, subst⁻¹}
 use mathlib.Core.List.{List, [], _∷_}
-use lib.Dec.{eqb}
 use lib.ListN.{length, getD, length-append}
 use borrow.Author.Tests.{eq-eqb}
 use Rattle.protocol.specs.Format.{Step, sync, Sync, Plan}
 use Rattle.protocol.specs.Steps as steps
 use Rattle.protocol.specs.Steps.{Queue, waiting, stepAt}
-use Rattle.protocol.specs.Rounds.{State, workerAt, waitsOn, keep, queueOf, Ruling, ruleOf, entryOf, apply, syncMove, member}
+use Rattle.protocol.specs.Rounds.{State, workerAt, queueOf, Ruling, ruleOf, entryOf, apply, syncMove, member}
 use Rattle.protocol.specs.Turns.{workersOf, allArrived, can, behind, closed, moveBy, move}
 use Rattle.protocol.specs.Demands.{occurs}
 use Rattle.protocol.proofs.Sound.{Sound}
@@ -25,10 +24,11 @@ use Rattle.protocol.proofs.Bounds.{bounded, records-bound, log-bound, placed-no
 use Rattle.worker.specs.declared.Worker.{Worker}
 use Rattle.queue.specs.List.{listOf, Below}
 use Rattle.rules.specs.Codes.{fateCode}
-use Rattle.rules.proofs.Codes.{code-same}
+use Rattle.rules.specs.Rules.{found}
+use Rattle.rules.proofs.Moving.{queue-coded}
 use Rattle.engine.specs.Shows.{idle, absent, Shows}
 use Rattle.engine.specs.declared.state.Tally.{Tally}
-use Rattle.engine.proofs.CanMove.{or-right, all-absent}
+use Rattle.engine.proofs.CanMove.{all-absent}
 
 -- who holds the token
 pub record Holder (s : State) (w : ℕ) : Type 0 where
@@ -74,12 +74,6 @@ module _ (plan : Plan) (s : State) (c : Core plan s) (w : ℕ) (y : Sync) (h : H
       ap (λ (x : Step). moveBy plan x (workerAt s w .arrived) w s) step
       ∙ ap (λ (b : Bool). moveBy plan (sync y) b w s) (h .arrived)
       ∙ ap (λ (ws : List ℕ). closed (syncMove plan y w (behind ws) s)) (h .list)
-
--- a list kept by tests that agree on it
-keep-same : (f g : ℕ → Bool) (ws : List ℕ) → ((u : ℕ) → member u ws ≡ true → f u ≡ g u) → keep f ws ≡ keep g ws
-unfolding keep member
-keep-same f g [] e = refl
-keep-same f g (w ∷ ws) e = rw (e w (rw (eq-eqb w w refl)), keep-same f g ws (λ u m. e u (or-right (eqb u w) m)))
 
 -- nobody else stands in a list
 module _ (plan : Plan) (s : State) (c : Core plan s) where
@@ -131,14 +125,10 @@ module _ (plan : Plan) (sound : Sound plan) (s : State) (i : Inv plan s) (t : Ta
   rounds-fit = omega (arith, shows .rounds, bounded plan s sound i .rounds, bounded plan s sound i .movesFit)
 
   -- the queue of a condition or a barrier, by the codes
-  pub queue-same : (q : Queue) → keep (λ u. eqb (getD on u 0) (fateCode (waiting q))) (s .waiting) ≡ queueOf s q
-  unfolding queueOf
-  queue-same q =
-      keep-same (λ u. eqb (getD on u 0) (fateCode (waiting q))) (λ u. waitsOn q (workerAt s u .fate)) (s .waiting) (λ u m.
-      ap (λ (k : ℕ). eqb k (fateCode (waiting q))) (shows .lined .fates u (waiting-known plan s (i .core) u m)) ∙ code-same (workerAt s u .fate) q)
-
-  pub queue-listed : (q : Queue) → keep (λ u. eqb (getD on u 0) (fateCode (waiting q))) (listOf (t .lists .waiting)) ≡ queueOf s q
-  queue-listed q = ap (λ (ws : List ℕ). keep (λ u. eqb (getD on u 0) (fateCode (waiting q))) ws) (shows .lined .waiting .list) ∙ queue-same q
+  pub queue-listed : (q : Queue) → found on (listOf (t .lists .waiting)) (fateCode (waiting q)) ≡ queueOf s q
+  queue-listed q =
+      ap (λ (ws : List ℕ). found on ws (fateCode (waiting q))) (shows .lined .waiting .list)
+      ∙ queue-coded s on q (λ u m. shows .lined .fates u (waiting-known plan s (i .core) u m))
 
   module _ (w : ℕ) (able : can s w ≡ true) where
     pub can-listed : Listed plan s w
@@ -173,9 +163,6 @@ module _ (plan : Plan) (sound : Sound plan) (s : State) (i : Inv plan s) (t : Ta
     module _ (near : t .away ≡ 0) where
       pub holds-token : Holder s w
       holds-token = holder s w able (sym (shows .lined .missing) ∙ near)
-
-      pub list-first : getD (s .list) 0 0 ≡ w
-      list-first = ap (λ (ws : List ℕ). getD ws 0 0) (holds-token .list)
 
       pub records-fit : (y : Sync) → stepAt plan w (workerAt s w .place) ≡ sync y → t .records + 1 ≤ 1032
       unfolding apply

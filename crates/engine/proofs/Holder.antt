@@ -7,14 +7,13 @@ use native.Mathlib.Omega.{arith}
 use lib.Dec.{eqb}
 use lib.ListN.{length, getD, set, drop, take}
 use lib.Seq.{sets, length-sets}
-use borrow.Author.Tests.{eq-eqb, ne-eqb}
 use Rattle.protocol.specs.Format.{Sync, sync}
 use Rattle.protocol.specs.Steps.{onCondition, atBarrier, waiting, stepAt}
 use Rattle.protocol.specs.Turns.{workersOf, move}
 use Rattle.protocol.specs.Report.{entryBytes, logBytes}
 use Rattle.protocol.proofs.Invariant.{Core}
 use Rattle.protocol.specs.Rounds as rounds
-use Rattle.protocol.specs.Rounds.{workerAt, keep, queueOf, ruleOf, apply, member, staysIn, joinsNext, memoryAfter, copiesAfter, fateAfter, opOf, operandOf, Entry, entryOf}
+use Rattle.protocol.specs.Rounds.{workerAt, queueOf, ruleOf, apply, member, staysIn, joinsNext, memoryAfter, copiesAfter, fateAfter, opOf, operandOf, Entry, entryOf}
 use Rattle.plan.specs.declared.decode.Record.{Record}
 use Rattle.worker.specs.declared.Worker.{Worker}
 use Rattle.queue.specs.List.{listOf, Below}
@@ -32,7 +31,7 @@ use Rattle.moves.proofs.Owned.{sync-kind}
 use Rattle.engine.specs.declared.state.Tally.{Tally}
 use Rattle.engine.specs.declared.hold.Decision.{Decision}
 use Rattle.engine.specs.Shows.{Logged, Shows}
-use Rattle.engine.specs.Held.{keyOf, Asking, Decided, Settled}
+use Rattle.engine.specs.Held.{Asking, Decided, Settled}
 use Rattle.engine.specs.Moving.{Holding, heldAs}
 use Rattle.engine.proofs.Facts as facts
 use Rattle.engine.proofs.Facts.{Holder, ruleAt, applied, hold-core, list-known, next-known}
@@ -76,18 +75,14 @@ module _ (r : Record) (w count : ℕ) (t : Tally) (sizes on : List ℕ) (mark co
 
   -- the ruling is that of the definitions
   pub ruled : (d : Decision) → Decided r w count sizes (t .lists) on d
-      → rulingOf (d .ruling) (listOf (d .queued)) ≡ ruleOf (h .plan) (queueOf (h .here .state)) (workerAt (h .here .state) w .held) (syncOf (r .op) (r .number))
+      → rulingOf (d .ruling) ≡ ruleOf (h .plan) (queueOf (h .here .state)) (workerAt (h .here .state) w .held) (syncOf (r .op) (r .number))
   ruled d x =
       let a = h .here in
       let queue = facts.queue-listed (h .plan) (a .sound) (a .state) (a .inv) t (a .workers) on mark copied memory log work (a .shows) in
-      let key : (k : ℕ) → keyOf r ≡ k → listOf (d .queued) ≡ keep (λ u. eqb (getD on u 0) k) (listOf (t .lists .waiting))
-      = λ k e. x .queued .list ∙ ap (λ (j : ℕ). keep (λ u. eqb (getD on u 0) j) (listOf (t .lists .waiting))) e in
       x .ruled .same (h .plan) (queueOf (a .state))
-      (λ l m. key (4 + 2 * r .number) (ap (λ (b : Bool). cond b (5 + 2 * r .number) (4 + 2 * r .number)) (ne-eqb (r .op) 37 (λ e. omega arith))) ∙ queue (onCondition (r .number)))
-      (λ e. key (5 + 2 * r .number) (ap (λ (b : Bool). cond b (5 + 2 * r .number) (4 + 2 * r .number)) (eq-eqb (r .op) 37 e)) ∙ queue (atBarrier (r .number)))
-      (λ e.
-      sym (h .sizesRight (r .number) (let q = h .range .queue (omega arith) (omega arith) in omega arith))
-      ∙ sym (ap (λ (b : Bool). cond b (getD sizes (r .number) 0) 0) (eq-eqb (r .op) 37 e)))
+      (λ l m. queue (onCondition (r .number)))
+      (λ e. queue (atBarrier (r .number)))
+      (λ e. sym (h .sizesRight (r .number) (let q = h .range .queue (omega arith) (omega arith) in omega arith)))
       ∙ ap (λ (k : ℕ). ruleOf (h .plan) (queueOf (a .state)) k (syncOf (r .op) (r .number))) held-same
 
   abbrev y : Sync
@@ -147,7 +142,7 @@ module _ (r : Record) (w count : ℕ) (t : Tally) (sizes on : List ℕ) (mark co
       facts.records-fit (h .plan) (a .sound) (a .state) (a .inv) t (a .workers) on mark copied memory log work (a .shows) w (a .able) (h .nobody) y step
 
   -- what the parts leave shows the state after the move
-  module _ (d : Decision) (x : Decided r w count sizes (t .lists) on d) (on′ : List ℕ) (f : FatesSettled on (d .ruling) w (listOf (d .queued)) on′)
+  module _ (d : Decision) (x : Decided r w count sizes (t .lists) on d) (on′ : List ℕ) (f : FatesSettled on (d .ruling) w on′)
       (memory′ : List ℕ) (copied′ : List Bool) (b : Settled (d .ruling .bytes) w memory copied work memory′ copied′)
       (log′ : List ℕ) (l : log′ ≡ sets log (8 * t .records) (entryBytes (entryAs (t .rounds + 1) w (r .op) (r .number) (d .ruling .outcome))))
       (o : Round) (mark′ : List Bool) (turned : TurnedOver (d .lists .list) (d .lists .next) w (t .rounds) mark o mark′) where
@@ -171,7 +166,7 @@ module _ (r : Record) (w count : ℕ) (t : Tally) (sizes on : List ℕ) (mark co
           fateCount = f .size;
           fates = λ u.
               f .code u
-              ∙ (ap (λ (k : ℕ). cond (eqb u w) k (cond (member u (wokenOf (d .ruling .wakes) (listOf (d .queued)) ++ joinedOf (d .ruling .joins) (listOf (d .queued)))) 0 (getD on u 0)))
+              ∙ (ap (λ (k : ℕ). cond (eqb u w) k (cond (member u (wokenOf (d .ruling .wakes) (listOf (d .ruling .queued)) ++ joinedOf (d .ruling .joins) (listOf (d .ruling .queued)))) 0 (getD on u 0)))
               (sym (x .ruled .sound .coded))
               ∙ ap (λ (k : rounds.Ruling). cond (eqb u w) (fateCode (fateAfter (k .goes))) (cond (member u (k .wakes ++ k .joins)) 0 (getD on u 0))) same);
           shared = b .shared ∙ ap (λ (k : rounds.Ruling). memoryAfter (k .bytes) (copiesIn copied work w) memory) same;

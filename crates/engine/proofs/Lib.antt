@@ -1,6 +1,5 @@
 pub mod Gathered
 pub mod Settling
-pub mod Deciding
 pub mod CanMove
 pub mod Parts
 pub mod Facts

@@ -8,19 +8,17 @@ use lib.ListN.{length, getD, take, replicate}
 use Rattle.protocol.specs.Format.{Plan, planOf, countFrom}
 use Rattle.protocol.specs.Rounds.{State}
 use Rattle.protocol.specs.Turns.{workersOf, move, turn, play, noneLeft, ended}
-use Rattle.protocol.proofs.Bounds.{play-inv}
-use Rattle.protocol.proofs.Laws.{start-inv, end-stops}
+use Rattle.protocol.proofs.Laws.{end-stops}
 use Rattle.plan.specs.declared.decode.Record.{Record}
 use Rattle.pages.specs.Copies.{Sizes}
 use Rattle.queue.specs.List.{listOf}
 use Rattle.engine.specs.Moving.{Opened, Playing, Eight, Syncing, Synced, Over}
-use Rattle.engine.specs.Turning.{Turning, Stopped, Went, raisedBy}
+use Rattle.engine.specs.Turning.{Turning, Stopped, Went, movesAs}
 use Rattle.engine.specs.Shows.{gathered, Shows}
 use Rattle.engine.specs.declared.state.Tally.{Tally}
 use Rattle.engine.specs.declared.state.Reached.{Reached}
-use Rattle.engine.proofs.Facts.{moves-fit}
 use Rattle.engine.proofs.Gathered.{gathered-at}
-use Rattle.engine.proofs.Playing.{after, plan-sound, started, turn-small, stepping, moved}
+use Rattle.engine.proofs.Playing.{after, started, turn-small, stepping, moved}
 
 -- after the end every turn passes
 ended-play : (plan : Plan) (s : State) (ts : List ℕ) → ended s ≡ true → play plan s ts ≡ s
@@ -55,7 +53,7 @@ module _ {file : List ℕ} {n : ℕ} {sizes firsts turns memory₀ log₀ work�
 
   module _ {i : ℕ} {t : Tally} {places held registers on : List ℕ} {mark copied : List Bool} {memory log work : List ℕ}
       (s : Stands file turns memory₀ i t places held registers on mark copied memory log work) where
-    pub turning : Turning file firsts turns i mark places held registers copied memory work
+    pub turning : Turning file firsts turns i (t .moves) mark places held registers copied memory work
     turning =
         record {
           n = n;
@@ -67,19 +65,15 @@ module _ {file : List ℕ} {n : ℕ} {sizes firsts turns memory₀ log₀ work�
           within = s .within;
           eight = s .eight;
           tally = t;
+          counted = refl;
           on = on;
           log = log;
           shows = s .shows;
         }
 
-    pub moves-here : t .moves ≤ 2064
-    moves-here =
-        moves-fit (planOf file) (plan-sound p) (after (planOf file) memory₀ turns i)
-        (play-inv (planOf file) (plan-sound p) _ (take i turns) (start-inv (planOf file) memory₀ (plan-sound p))) t (gathered places held registers) on mark copied memory log work (s .shows)
-
     pub went-on : {r : Reached} {places′ registers′ : List ℕ} {copied′ : List Bool} {work′ : List ℕ}
-        → Went file firsts turns i mark places held registers copied memory work r places′ registers′ copied′ work′
-        → Stands file turns memory₀ (r .turn) (raisedBy t (r .moves)) places′ held registers′ on mark copied′ memory log work′
+        → Went file firsts turns i (t .moves) mark places held registers copied memory work r places′ registers′ copied′ work′
+        → Stands file turns memory₀ (r .turn) (movesAs t (r .moves)) places′ held registers′ on mark copied′ memory log work′
     unfolding turning
     went-on w = record { within = w .within; eight = w .eight turning; shows = w .shows turning }
 
@@ -122,7 +116,7 @@ module _ {file : List ℕ} {n : ℕ} {sizes firsts turns memory₀ log₀ work�
   -- the turns up to one that synchronises, and that one
   pub stands-on : {i : ℕ} {t t′ : Tally} {places held registers on places′ held′ registers′ on′ places″ : List ℕ} {mark copied mark′ copied′ copied″ : List Bool} {memory log work memory′ log′ work′ : List ℕ} {r : Reached}
       → Stands file turns memory₀ i t places held registers on mark copied memory log work
-      → (w : Went file firsts turns i mark places held registers copied memory work r places′ registers′ copied′ work′) → r .turn < length turns
-      → Synced (r .step) (getD turns (r .turn) 0) (raisedBy t (r .moves)) sizes places′ held on mark copied′ memory log work′ t′ places″ held′ on′ mark′ copied″ memory′ log′
+      → (w : Went file firsts turns i (t .moves) mark places held registers copied memory work r places′ registers′ copied′ work′) → r .turn < length turns
+      → Synced (r .step) (getD turns (r .turn) 0) (movesAs t (r .moves)) sizes places′ held on mark copied′ memory log work′ t′ places″ held′ on′ mark′ copied″ memory′ log′
       → Stands file turns memory₀ (r .turn + 1) t′ places″ held′ registers′ on′ mark′ copied″ memory′ log′ work′
   stands-on s w l done = synced (went-on s w) l (w .stopped l) done

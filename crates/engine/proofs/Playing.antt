@@ -17,6 +17,7 @@ use Rattle.protocol.specs.Calls.{namesNobody, playedFrom}
 use Rattle.protocol.proofs.Accepted.{sound-file}
 use Rattle.protocol.proofs.Bounds.{play-inv}
 use Rattle.protocol.proofs.Counting.{member-some, occurs-above}
+use Rattle.protocol.proofs.Invariant.{Inv}
 use Rattle.protocol.proofs.Laws.{start-inv}
 use Rattle.protocol.proofs.Sound.{Sound}
 use Rattle.queue.specs.List.{Below}
@@ -25,6 +26,7 @@ use Rattle.worker.specs.declared.Worker.{Worker}
 use Rattle.engine.specs.Moving.{Opened, Playing, Stepping}
 use Rattle.engine.specs.Shows.{idle, Shows}
 use Rattle.engine.specs.declared.state.Tally.{Tally}
+use Rattle.engine.proofs.Facts as facts
 use Rattle.engine.proofs.StartShows.{start-shows}
 
 play-one : (plan : Plan) (s : State) (ts : List ℕ) (w : ℕ) → play plan s (ts ++ (w ∷ [])) ≡ turn plan (play plan s ts) w
@@ -100,6 +102,14 @@ module _ {file : List ℕ} {n : ℕ} {sizes firsts turns memory₀ log₀ work�
         logSize = room;
       })
 
+  abbrev inv-at : (i : ℕ) → Inv (planOf file) (after (planOf file) memory₀ turns i)
+  inv-at i = play-inv (planOf file) plan-sound _ (take i turns) (start-inv (planOf file) memory₀ plan-sound)
+
+  pub moves-fit : (i : ℕ) {t : Tally} {workers : List Worker} {on : List ℕ} {mark copied : List Bool} {memory log work : List ℕ}
+      → Shows (workersOf (planOf file)) (after (planOf file) memory₀ turns i) t workers on mark copied memory log work → t .moves ≤ 2064
+  moves-fit i {t} {workers} {on} {mark} {copied} {memory} {log} {work} shows =
+      facts.moves-fit (planOf file) plan-sound (after (planOf file) memory₀ turns i) (inv-at i) t workers on mark copied memory log work shows
+
   module _ (i : ℕ) (h : i < length turns) where
     pub turn-known : getD turns i 0 < workersOf (planOf file)
     turn-known = omega (arith, p .workers, turn-below n turns i (p .known) h)
@@ -121,7 +131,7 @@ module _ {file : List ℕ} {n : ℕ} {sizes firsts turns memory₀ log₀ work�
               here = record {
                 sound = plan-sound;
                 state = after (planOf file) memory₀ turns i;
-                inv = play-inv (planOf file) plan-sound _ (take i turns) (start-inv (planOf file) memory₀ plan-sound);
+                inv = inv-at i;
                 workers = workers;
                 shows = shows;
                 able = can-same e;

@@ -1,11 +1,10 @@
 -- What the parts of the holder's step take and ensure.
-use Prim.Native.Nat.{ℕ, _+_, _*_, _≤_, _<_}
-use mathlib.Core.Bool.{Bool, cond}
+use Prim.Native.Nat.{ℕ, _+_, _≤_, _<_}
+use mathlib.Core.Bool.{Bool}
 use mathlib.Core.Path.{_≡_}
 use mathlib.Core.List.{List}
-use lib.Dec.{eqb}
-use lib.ListN.{length, getD}
-use Rattle.protocol.specs.Rounds.{keep, memoryAfter, copiesAfter}
+use lib.ListN.{length}
+use Rattle.protocol.specs.Rounds.{memoryAfter, copiesAfter}
 use Rattle.plan.specs.declared.decode.Record.{Record}
 use Rattle.pages.specs.Copies.{copiesIn}
 use Rattle.rules.specs.declared.ruling.Bytes.{Bytes}
@@ -13,14 +12,8 @@ use Rattle.rules.specs.Codes.{bytesOf}
 use Rattle.rules.specs.Rules.{rulingOf, Ruled}
 use Rattle.rules.specs.Moves.{ListsMoved}
 use Rattle.rules.specs.declared.lists.Lists.{Lists}
-use Rattle.queue.specs.List.{listOf, Good, Holds, Below}
+use Rattle.queue.specs.List.{listOf, Good, Below}
 use Rattle.engine.specs.declared.hold.Decision.{Decision}
-
-abbrev pub keyOf : Record → ℕ
-keyOf r = cond (eqb (r .op) 37) (5 + 2 * r .number) (4 + 2 * r .number)
-
-abbrev pub sizeBy : Record → List ℕ → ℕ
-sizeBy r sizes = cond (eqb (r .op) 37) (getD sizes (r .number) 0) 0
 
 -- shared memory and the holder's copies after its step; the other workers' copies stay
 pub record Settled (bytes : Bytes) (h : ℕ) (memory : List ℕ) (marks : List Bool) (work memory′ : List ℕ) (marks′ : List Bool) : Type 0 where
@@ -47,6 +40,5 @@ pub record Asking (r : Record) (h held : ℕ) (lists : Lists) : Type 0 where
 
 -- what it gives
 pub record Decided (r : Record) (h held : ℕ) (sizes : List ℕ) (lists : Lists) (on : List ℕ) (d : Decision) : Type 0 where
-  pub queued : Holds (d .queued) (keep (λ w. eqb (getD on w 0) (keyOf r)) (listOf (lists .waiting)))
-  pub ruled : Ruled (r .op) (r .number) held (sizeBy r sizes) (listOf (d .queued)) (d .ruling)
-  pub moved : ListsMoved lists (rulingOf (d .ruling) (listOf (d .queued))) h (d .lists)
+  pub ruled : Ruled (r .op) (r .number) held sizes (lists .waiting) on (d .ruling)
+  pub moved : ListsMoved lists (rulingOf (d .ruling)) h (d .lists)

@@ -111,6 +111,7 @@ pub record Playing (file : List ℕ) (n : ℕ) (sizes firsts turns memory log wo
   pub laid : Laid file sizes firsts
   pub workers : n ≡ workersOf (planOf file)
   pub known : namesNobody n turns ≡ false
+  pub short : length turns ≤ 65535
   pub bytes : Sizes memory work
   pub room : length log ≡ 8256
 

@@ -14,8 +14,8 @@ use Rattle.engine.specs.declared.state.Reached.{Reached}
 use Rattle.engine.specs.Shows.{gathered, Shows}
 use Rattle.engine.specs.Moving.{Playing, Eight}
 
--- the values show the state after the first i turns, whatever the lists, the fates and the log are
-pub record Turning (file firsts turns : List ℕ) (i : ℕ) (mark : List Bool) (places held registers : List ℕ) (copied : List Bool) (memory work : List ℕ) : Type 0 where
+-- the values show the state after the first i turns, so many of which have moved, whatever the lists, the fates and the log are
+pub record Turning (file firsts turns : List ℕ) (i made : ℕ) (mark : List Bool) (places held registers : List ℕ) (copied : List Bool) (memory work : List ℕ) : Type 0 where
   pub n : ℕ
   pub sizes : List ℕ
   pub start : List ℕ
@@ -25,13 +25,14 @@ pub record Turning (file firsts turns : List ℕ) (i : ℕ) (mark : List Bool) (
   pub within : i ≤ length turns
   pub eight : Eight places held registers
   pub tally : Tally
+  pub counted : tally .moves ≡ made
   pub on : List ℕ
   pub log : List ℕ
   pub shows : Shows (workersOf (planOf file)) (playedFrom (planOf file) start (take i turns)) tally (gathered places held registers) on mark copied memory log work
 
--- so many moves more
-abbrev pub raisedBy : Tally → ℕ → Tally
-raisedBy t k = record { lists = t .lists; away = t .away; moves = t .moves + k; rounds = t .rounds; records = t .records }
+-- the same with so many moves
+abbrev pub movesAs : Tally → ℕ → Tally
+movesAs t k = record { lists = t .lists; away = t .away; moves = k; rounds = t .rounds; records = t .records }
 
 -- turn i names a worker that can move, and r is its step, which synchronises
 pub record Stopped (file firsts turns : List ℕ) (i : ℕ) (mark : List Bool) (places : List ℕ) (r : Record) : Type 0 where
@@ -40,12 +41,12 @@ pub record Stopped (file firsts turns : List ℕ) (i : ℕ) (mark : List Bool) (
   pub late : 32 ≤ r .op
 
 -- the values show the state after the turns up to the one that is reached
-pub record Went (file firsts turns : List ℕ) (from : ℕ) (mark : List Bool) (places held registers : List ℕ) (copied : List Bool) (memory work : List ℕ)
+pub record Went (file firsts turns : List ℕ) (from made : ℕ) (mark : List Bool) (places held registers : List ℕ) (copied : List Bool) (memory work : List ℕ)
     (r : Reached) (places′ registers′ : List ℕ) (copied′ : List Bool) (work′ : List ℕ) : Type 0 where
   pub forward : from ≤ r .turn
   pub within : r .turn ≤ length turns
   pub stopped : r .turn < length turns → Stopped file firsts turns (r .turn) mark places′ (r .step)
-  pub eight : Turning file firsts turns from mark places held registers copied memory work → Eight places′ held registers′
+  pub eight : Turning file firsts turns from made mark places held registers copied memory work → Eight places′ held registers′
   pub shows :
-      (h : Turning file firsts turns from mark places held registers copied memory work)
-      → Shows (workersOf (planOf file)) (playedFrom (planOf file) (h .start) (take (r .turn) turns)) (raisedBy (h .tally) (r .moves)) (gathered places′ held registers′) (h .on) mark copied′ memory (h .log) work′
+      (h : Turning file firsts turns from made mark places held registers copied memory work)
+      → Shows (workersOf (planOf file)) (playedFrom (planOf file) (h .start) (take (r .turn) turns)) (movesAs (h .tally) (r .moves)) (gathered places′ held registers′) (h .on) mark copied′ memory (h .log) work′

@@ -3,7 +3,6 @@ use crate::state::Moved;
 use crate::state::Tally;
 use journal::log::packed;
 use plan::decode::Record;
-use queue::Queue;
 use rules::fates::settle_fates;
 use rules::lists::Lists;
 use rules::lists::moved;
@@ -19,37 +18,12 @@ ghost use Rattle.protocol.specs.Report.{entryBytes};
 ghost use Rattle.journal.specs.Bytes.{entryAs};
 ghost use Rattle.writer.specs.Appended.{Fits};
 ghost use Rattle.pages.specs.Copies.{Sizes};
-ghost use Rattle.engine.specs.Held.{keyOf, sizeBy, Asking, Decided, Settled};
+ghost use Rattle.engine.specs.Held.{Asking, Decided, Settled};
 ghost use Rattle.engine.specs.Moving.{Holding, Held};
 
-// The code of the fate of those who wait where the step says: at its condition or its barrier.
-fn key_of(r: Record) -> u64
-    requires { ⌜ r .number ≤ 15 ⌝ }
-    ensures { λ k. ⌜ k ≡ keyOf r ⌝ }
-{
-    let number = r.number as u64;
-    if r.op == 37 {
-        return 5 + 2 * number;
-    }
-    4 + 2 * number
-}
-
-// The size of the barrier that the step names.
-fn size_by(r: Record, sizes: &[u8; 8]) -> u8
-    requires { ⌜ (r .op ≡ 37 → r .number < 8) ⌝ }
-    ensures { λ k. ⌜ k ≡ sizeBy r (now (sizes .entry)) ⌝ }
-{
-    if r.op != 37 {
-        return 0;
-    }
-    let b = r.number as usize;
-    sizes[b]
-}
-
-// A synchronising step's ruling, those whom it finds waiting, and the lists after it.
+// A synchronising step's ruling, and the lists after it.
 pub struct Decision {
     pub ruling: Ruling,
-    pub queued: Queue,
     pub lists: Lists,
 }
 
@@ -58,15 +32,12 @@ fn decide(r: Record, h: u64, held: u64, sizes: &[u8; 8], lists: Lists, on: &[u64
     requires { ⌜ Asking r h held lists ⌝ }
     ensures { λ d. ⌜ Decided r h held (now (sizes .entry)) lists (now (on .entry)) d ⌝ }
 {
-    let key = key_of(r);
     let waiting = lists.waiting;
-    let queued = waiting.select(on, key);
-    let size = size_by(r, sizes);
-    let ruling = rule(r.op, r.number, held, size, queued);
-    let after = moved(lists, ruling, h, queued, on, key);
+    let ruling = rule(r.op, r.number, held, sizes, waiting, on);
+    let key = 5 + 2 * (r.number as u64);
+    let after = moved(lists, ruling, h, on, key);
     Decision {
         ruling,
-        queued,
         lists: after,
     }
 }
@@ -120,10 +91,9 @@ pub fn hold(
     let lists = t.lists;
     let d = decide(r, w as u64, held, sizes, lists, on);
     let ruling = d.ruling;
-    let queued = d.queued;
     let after = d.lists;
     let bytes = ruling.bytes;
-    settle_fates(on, ruling, w, queued);
+    settle_fates(on, ruling, w);
     settle_bytes(bytes, w, memory, work, copied);
     let records = record_step(r, w, ruling.outcome, t.rounds, t.records, log);
     let list = after.list;

@@ -60,6 +60,7 @@ pub fn play(
             firsts,
             turns,
             i,
+            t.moves,
             &can,
             &mut places,
             &held,
@@ -69,7 +70,7 @@ pub fn play(
             work,
         );
         i = own.turn;
-        t.moves += own.moves;
+        t.moves = own.moves;
         if i < turns.len() {
             let w = turns[i] as usize;
             let r = own.step;

@@ -7,7 +7,7 @@ use native.Mathlib.Omega.{arith}
 use native.Mathlib.Decide.{decLt}
 use lib.ListN.{length, getD, set, take, length-append, List·getD-append}
 use lib.Seq.{getD-set-same, getD-set-other, getD-append-add, getD-take, ext-getD, length-take-le}
-use Rattle.protocol.specs.Format.{Record, Step, stepsIn, firstIn, workersIn, countFrom, upTo, records, planIn, planOf}
+use Rattle.protocol.specs.Format.{Record, stepsIn, firstIn, workersIn, countFrom, upTo, records, planIn, planOf}
 use Rattle.protocol.specs.Refusals.{check, accepted}
 use Rattle.protocol.specs.Turns.{workersOf}
 use Rattle.protocol.specs.RoundRun.{total, stepCount}

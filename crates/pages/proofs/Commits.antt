@@ -64,6 +64,11 @@ module _ (copies : Copies) (memory : List ℕ) where
 pub commit-nothing : (memory : List ℕ) → memory ≡ commit [] memory
 commit-nothing memory = commit-is [] memory memory refl (λ i h. refl)
 
+pub commit-none : (memory : List ℕ) → memory ≡ commit noCopies memory
+unfolding noCopies
+commit-none memory = commit-is noCopies memory memory refl (λ j h.
+    ap (λ (k : Copy). committed k (offsetOf j) (getD memory j 0)) (sym (getD-same pageCount (pageOf j) absent)))
+
 -- ---- one page alone
 
 module _ (p : ℕ) (copy : Copy) (h : p < pageCount) (j shared : ℕ) where

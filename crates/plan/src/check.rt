@@ -8,8 +8,6 @@ use crate::decode::decode;
 use crate::skips::check_skips;
 use crate::steps::read_steps;
 ghost use mathlib.Core.Path.{_≡_};
-ghost use lib.ListN.{length};
-ghost use Rattle.protocol.specs.Refusals.{lengthRule};
 ghost use Rattle.plan.specs.Checking.{refusesLength, refusesPlan, CheckedAs};
 
 // What a run needs of an accepted file: the number of workers, the barriers' sizes, and where each worker's steps begin.

@@ -1,21 +1,21 @@
--- The laws of the three lists. Callers want `queue-coded`.
+-- The laws of the three lists, and of those who wait in one of them.
 -- Assumes nothing.
-use Prim.Native.Nat.{ℕ, _+_, _≤_, _<_}
+use Prim.Native.Nat.{ℕ, _+_, _-_, _≤_, _<_}
 use native.Mathlib.Omega.{arith}
-use borrow.Author.Tests.{eq-eqb, eqb-true}
+use native.Mathlib.Decide.{decLt}
+use borrow.Author.Tests.{eq-eqb, eqb-true, lt-ltb}
 use mathlib.Core.Bool.{Bool, true, false, cond, not, _||_, _&&_}
 use mathlib.Core.Path.{_≡_, refl, ap, sym, _∙_}
 use mathlib.Core.List.{List, [], _∷_, _++_, append-nil}
-use lib.Dec.{eqb}
-use lib.ListN.{length, getD, drop, take}
+use lib.Dec.{eqb, ltb}
+use lib.ListN.{length, getD, take}
 use Rattle.protocol.specs.Steps as steps
 use Rattle.protocol.specs.Steps.{waiting}
 use Rattle.protocol.specs.Rounds.{State, workerAt, waitsOn, queueOf, member, keep, without}
 use Rattle.queue.specs.declared.Queue.{Queue}
-use Rattle.queue.specs.List.{listOf, Holds}
+use Rattle.queue.specs.List.{listOf, Holds, Below}
 use Rattle.rules.specs.Codes.{fateCode}
-use Rattle.rules.specs.Rules.{wokenOf, joinedOf}
-use Rattle.rules.specs.Moves.{Leaving}
+use Rattle.rules.specs.Rules.{wokenOf, joinedOf, found, Met}
 use Rattle.rules.proofs.Codes.{code-same}
 
 pub length-keep : (t : ℕ → Bool) (ws : List ℕ) → length (keep t ws) ≤ length ws
@@ -60,6 +60,46 @@ member-keep t (v ∷ vs) w = go (t v) refl (eqb w v) refl (member-keep t vs w)
     go false n true e m = let z : t w ≡ false = ap t (eqb-true w v e) ∙ n in rw (m, z) (off (member w vs))
     go false n false e m = m
 
+pub below-keep : (n : ℕ) (t : ℕ → Bool) (ws : List ℕ) → Below n ws → Below n (keep t ws)
+below-keep n t ws b w e = b w (first (member w ws) (t w) (sym (member-keep t ws w) ∙ e))
+  where
+    first : (a b : Bool) → a && b ≡ true → a ≡ true
+    first true b e = refl
+    first false b e = e
+
+-- those whom a barrier finds: they are too few for it if all who wait there are, and else they are all of them
+module _ {on : List ℕ} {waiting : Queue} {key size : ℕ} {q : Queue} (m : Met on waiting key size q) where
+  abbrev there : List ℕ
+  there = found on (listOf waiting) key
+
+  short : length there ≤ length (listOf waiting)
+  short = length-keep (λ w. eqb (getD on w 0) key) (listOf waiting)
+
+  pub met-few : length (listOf q) + 1 < size → ltb (length there) (size - 1) ≡ true
+  met-few h = lt-ltb (length there) (size - 1) (elim (decLt (length (listOf waiting) + 1) size) [
+    | yes l ↦ omega (arith, l, short)
+    | no l ↦ omega (arith, h, ap length (m .late (omega arith)))
+  ])
+
+  pub met-all : size ≤ length (listOf q) + 1 → listOf q ≡ there
+  met-all h = elim (decLt (length (listOf waiting) + 1) size) [
+    | yes l ↦ absurd (omega (arith, l, h, ap length (m .early l)))
+    | no l ↦ m .late (omega arith)
+  ]
+
+  pub met-short : length (listOf q) ≤ length (listOf waiting)
+  met-short = elim (decLt (length (listOf waiting) + 1) size) [
+    | yes l ↦ omega (arith, ap length (m .early l))
+    | no l ↦ omega (arith, ap length (m .late (omega arith)), short)
+  ]
+
+  pub met-below : {n : ℕ} → Below n (listOf waiting) → Below n (listOf q)
+  unfolding member
+  met-below {n} b = elim (decLt (length (listOf waiting) + 1) size) [
+    | yes l ↦ rw (m .early l) (λ w e. absurd (let k : _≡_ {A = ℕ} 0 1 = cc in omega arith))
+    | no l ↦ rw (m .late (omega arith)) (below-keep n _ (listOf waiting) b)
+  ]
+
 -- without those who pass a test: those who do not
 pub without-kept : (t : ℕ → Bool) (ws : List ℕ) → without (keep t ws) ws ≡ keep (λ w. not (t w)) ws
 without-kept t ws = keep-same (λ w. not (member w (keep t ws))) (λ w. not (t w)) ws (λ w m. rw (member-keep, m))
@@ -81,11 +121,6 @@ pub not-both : (wakes joins : Bool) → (wakes ≡ true → joins ≡ false) →
 not-both true joins apart e = let z : true ≡ false = sym e ∙ apart refl in cc
 not-both false joins apart e = refl
 
-pub queued-short :
-    {waiting : Queue} {wakes joins : Bool} {queued : Queue} {on : List ℕ} {key : ℕ} → Leaving waiting wakes joins queued on key
-    → length (listOf queued) ≤ length (listOf waiting)
-queued-short {waiting} {wakes} {joins} {queued} {on} {key} l = rw (l .queue) (length-keep (λ w. eqb (getD on w 0) key) (listOf waiting))
-
 pub holds-more : {q : Queue} (ws js : List ℕ) → Holds q (ws ++ js) → Holds q (ws ++ (js ++ []))
 holds-more ws js h = rw (append-nil js) h
 
@@ -93,7 +128,7 @@ holds-more ws js h = rw (append-nil js) h
 pub queue-coded :
     (s : State) (on : List ℕ) (q : steps.Queue)
     → ((w : ℕ) → member w (s .waiting) ≡ true → getD on w 0 ≡ fateCode (workerAt s w .fate))
-    → keep (λ w. eqb (getD on w 0) (fateCode (waiting q))) (s .waiting) ≡ queueOf s q
+    → found on (s .waiting) (fateCode (waiting q)) ≡ queueOf s q
 unfolding queueOf
 queue-coded s on q coded =
     keep-same (λ w. eqb (getD on w 0) (fateCode (waiting q))) (λ w. waitsOn q (workerAt s w .fate)) (s .waiting)

@@ -1,6 +1,6 @@
 -- The laws of the rules: each branch of the code as the definitions have it.
 -- Assumes nothing.
-use Prim.Native.Nat.{ℕ, _+_, _≤_, _<_}
+use Prim.Native.Nat.{ℕ, _+_, _*_, _≤_}
 use native.Mathlib.Nat.{eq-or-lt-of-le}
 use native.Mathlib.Omega.{arith}
 use mathlib.Core.Bool.{true, false}
@@ -9,21 +9,37 @@ use mathlib.Core.Path.{_≡_, refl, sym, _∙_}
 use mathlib.Core.List.{List, [], _∷_}
 use lib.ListN.{length, getD, take}
 use Rattle.protocol.specs.Rounds as rounds
-use Rattle.protocol.specs.Rounds.{committed, givesAtZero, lockRule, unlockRule, waitRule, signalRule, barrierRule, exitRule, ruleOf}
+use Rattle.protocol.specs.Rounds.{member, committed, givesAtZero, lockRule, unlockRule, waitRule, signalRule, barrierRule, exitRule, ruleOf}
 use Rattle.protocol.specs.Turns.{noneLeft}
+use Rattle.queue.specs.declared.Queue.{Queue}
+use Rattle.queue.specs.List.{listOf, Good, Holds, Below}
 use Rattle.rules.specs.declared.ruling.Ruling.{Ruling}
 use Rattle.rules.specs.Codes.{syncOf}
-use Rattle.rules.specs.Rules.{Coded, Sound, Means, Ruled}
+use Rattle.rules.specs.Rules.{found, Coded, Sound, Means, Ruled}
 
 -- a ruling that wakes nobody
-pub calm : {held : ℕ} {qs : List ℕ} {r : Ruling} → r .wakes ≡ false → Coded (r .goes) → r .held ≤ held + 1 → Sound held qs r
-calm w e h =
+pub asleep : {held number : ℕ} {waiting : Queue} {on : List ℕ} {r : Ruling} → r .wakes ≡ false → Coded (r .goes) → r .held ≤ held + 1
+    → Good (r .queued) → Below 8 (listOf (r .queued)) → length (listOf (r .queued)) ≤ length (listOf waiting)
+    → (r .joins ≡ true → listOf (r .queued) ≡ found on (listOf waiting) (5 + 2 * number)) → Sound held number waiting on r
+asleep w e h good below few all =
     record {
       coded = e;
       some = λ y. let z : true ≡ false = sym y ∙ w in absurd (let n : _≡_ {A = ℕ} 0 1 = cc in omega arith);
       apart = λ y. let z : true ≡ false = sym y ∙ w in cc;
       rises = h;
+      good = good;
+      below = below;
+      few = few;
+      all = all;
     }
+
+-- a ruling that moves nobody but the holder
+pub calm : {held number : ℕ} {waiting : Queue} {on : List ℕ} {r : Ruling} → r .wakes ≡ false → r .joins ≡ false → Coded (r .goes) → r .held ≤ held + 1
+    → Holds (r .queued) [] → Sound held number waiting on r
+unfolding member
+calm {held} {number} {waiting} {on} {r} w j e h none =
+    asleep w e h (none .good) (rw (none .list) (λ v m. absurd (let n : _≡_ {A = ℕ} 0 1 = cc in omega arith))) (rw (none .list) (omega arith))
+    (λ y. let z : true ≡ false = sym y ∙ j in cc)
 
 pub wakes-none : (qs : List ℕ) (held : ℕ) → noneLeft qs ≡ true → signalRule qs held ≡ rounds.ruling committed held (givesAtZero held) [] [] 255
 wakes-none [] held e = refl
@@ -36,34 +52,34 @@ wakes-first [] held e = cc
 wakes-first (w ∷ ws) held e = refl
 
 -- the rule by its op
-module _ {op number held size : ℕ} {qs : List ℕ} {r : Ruling} where
-  pub by-lock : op ≡ 32 → Means held qs r (lockRule held) → Ruled op number held size qs r
+module _ {op number held : ℕ} {sizes : List ℕ} {waiting : Queue} {on : List ℕ} {r : Ruling} where
+  pub by-lock : op ≡ 32 → Means held number waiting on r (lockRule held) → Ruled op number held sizes waiting on r
   unfolding syncOf ruleOf
-  by-lock e m = record { same = λ plan queue on at sizes. rw e (m .same); sound = m .sound }
+  by-lock e m = record { same = λ plan queue met at fit. rw e (m .same); sound = m .sound }
 
-  pub by-unlock : op ≡ 33 → Means held qs r (unlockRule held) → Ruled op number held size qs r
+  pub by-unlock : op ≡ 33 → Means held number waiting on r (unlockRule held) → Ruled op number held sizes waiting on r
   unfolding syncOf ruleOf
-  by-unlock e m = record { same = λ plan queue on at sizes. rw e (m .same); sound = m .sound }
+  by-unlock e m = record { same = λ plan queue met at fit. rw e (m .same); sound = m .sound }
 
-  pub by-wait : op ≡ 34 → Means held qs r (waitRule number held) → Ruled op number held size qs r
+  pub by-wait : op ≡ 34 → Means held number waiting on r (waitRule number held) → Ruled op number held sizes waiting on r
   unfolding syncOf ruleOf
-  by-wait e m = record { same = λ plan queue on at sizes. rw e (m .same); sound = m .sound }
+  by-wait e m = record { same = λ plan queue met at fit. rw e (m .same); sound = m .sound }
 
-  pub by-signal : 35 ≤ op → op ≤ 36 → Means held qs r (signalRule qs held) → Ruled op number held size qs r
+  pub by-signal : 35 ≤ op → op ≤ 36 → Means held number waiting on r (signalRule (found on (listOf waiting) (4 + 2 * number)) held) → Ruled op number held sizes waiting on r
   unfolding syncOf ruleOf
   by-signal low high m =
       record {
-        same = λ plan queue on at sizes.
-            ⊎-elim (λ e. rw (← e, ← on low high) (m .same))
-            (λ h. let e : op ≡ 36 = omega arith in rw (e, ← on low high) (m .same))
+        same = λ plan queue met at fit.
+            ⊎-elim (λ e. rw (← e, ← met low high) (m .same))
+            (λ h. let e : op ≡ 36 = omega arith in rw (e, ← met low high) (m .same))
             (eq-or-lt-of-le low);
         sound = m .sound;
       }
 
-  pub by-barrier : op ≡ 37 → Means held qs r (barrierRule number size qs held) → Ruled op number held size qs r
+  pub by-barrier : op ≡ 37 → Means held number waiting on r (barrierRule number (getD sizes number 0) (found on (listOf waiting) (5 + 2 * number)) held) → Ruled op number held sizes waiting on r
   unfolding syncOf ruleOf
-  by-barrier e m = record { same = λ plan queue on at sizes. rw (e, ← at e, sizes e) (m .same); sound = m .sound }
+  by-barrier e m = record { same = λ plan queue met at fit. rw (e, ← at e, fit e) (m .same); sound = m .sound }
 
-  pub by-exit : op ≡ 38 → Means held qs r (exitRule held) → Ruled op number held size qs r
+  pub by-exit : op ≡ 38 → Means held number waiting on r (exitRule held) → Ruled op number held sizes waiting on r
   unfolding syncOf ruleOf
-  by-exit e m = record { same = λ plan queue on at sizes. rw e (m .same); sound = m .sound }
+  by-exit e m = record { same = λ plan queue met at fit. rw e (m .same); sound = m .sound }

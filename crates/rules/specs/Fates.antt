@@ -19,9 +19,9 @@ pub record Freeing (wakes joins : Bool) (queued : Queue) : Type 0 where
   pub apart : wakes ≡ true → joins ≡ false
 
 -- the holder has its new fate, those whom the step moves are going, and the others stay as they were
-pub record Settled (before : List ℕ) (r : Ruling) (h : ℕ) (queued after : List ℕ) : Type 0 where
+pub record Settled (before : List ℕ) (r : Ruling) (h : ℕ) (after : List ℕ) : Type 0 where
   pub size : length after ≡ 8
   pub code :
       (w : ℕ)
       → getD after w 0
-      ≡ cond (eqb w h) (codeAfter (r .goes)) (cond (member w (wokenOf (r .wakes) queued ++ joinedOf (r .joins) queued)) 0 (getD before w 0))
+      ≡ cond (eqb w h) (codeAfter (r .goes)) (cond (member w (wokenOf (r .wakes) (listOf (r .queued)) ++ joinedOf (r .joins) (listOf (r .queued)))) 0 (getD before w 0))

@@ -3,14 +3,14 @@ use Prim.Native.Nat.{ℕ, _+_, _≤_, _<_}
 use mathlib.Core.Bool.{Bool, true, false}
 use mathlib.Core.Path.{_≡_}
 use mathlib.Core.List.{List, _++_}
-use lib.Dec.{eqb}
-use lib.ListN.{length, getD, drop}
+use lib.ListN.{length, drop}
 use Rattle.protocol.specs.Rounds as rounds
-use Rattle.protocol.specs.Rounds.{staysIn, joinsNext, joinsWaiting, without, keep}
+use Rattle.protocol.specs.Rounds.{staysIn, joinsNext, joinsWaiting, without}
 use Rattle.queue.specs.declared.Queue.{Queue}
 use Rattle.queue.specs.List.{listOf, Good, Holds, Below}
 use Rattle.rules.specs.declared.lists.Lists.{Lists}
 use Rattle.rules.specs.declared.ruling.Ruling.{Ruling}
+use Rattle.rules.specs.Rules.{found}
 
 -- the list of a round, whose first is the holder, with room for a woken worker
 pub record Turning (list : Queue) (wakes : Bool) (queued : Queue) (h : ℕ) : Type 0 where
@@ -20,23 +20,24 @@ pub record Turning (list : Queue) (wakes : Bool) (queued : Queue) (h : ℕ) : Ty
   pub fits : length (listOf list) + length (listOf queued) ≤ 8
   pub some : wakes ≡ true → 0 < length (listOf queued)
 
--- the queued workers are those who wait with the key as their fate's code
+-- where the queued workers join the next list, they are those who wait with the key as their fate's code
 pub record Leaving (waiting : Queue) (wakes joins : Bool) (queued : Queue) (on : List ℕ) (key : ℕ) : Type 0 where
   pub good : Good waiting
   pub below : Below 8 (listOf waiting)
-  pub queue : listOf queued ≡ keep (λ w. eqb (getD on w 0) key) (listOf waiting)
+  pub queue : joins ≡ true → listOf queued ≡ found on (listOf waiting) key
   pub some : wakes ≡ true → 0 < length (listOf queued)
   pub apart : wakes ≡ true → joins ≡ false
 
 -- the three lists have at most eight workers between them
-pub record Room (lists : Lists) (r : Ruling) (h : ℕ) (queued : Queue) (on : List ℕ) (key : ℕ) : Type 0 where
+pub record Room (lists : Lists) (r : Ruling) (h : ℕ) (on : List ℕ) (key : ℕ) : Type 0 where
   pub list : Good (lists .list)
   pub next : Good (lists .next)
-  pub good : Good queued
+  pub good : Good (r .queued)
+  pub few : length (listOf (r .queued)) ≤ length (listOf (lists .waiting))
   pub holder : h < 8
   pub held : 0 < length (listOf (lists .list))
   pub total : length (listOf (lists .list)) + length (listOf (lists .next)) + length (listOf (lists .waiting)) ≤ 8
-  pub leaving : Leaving (lists .waiting) (r .wakes) (r .joins) queued on key
+  pub leaving : Leaving (lists .waiting) (r .wakes) (r .joins) (r .queued) on key
 
 -- the lists after a ruling, as `apply` has them
 pub record ListsMoved (before : Lists) (r : rounds.Ruling) (h : ℕ) (after : Lists) : Type 0 where

@@ -1,14 +1,15 @@
 -- What a ruling of the code stands for, and what `rule` takes and ensures.
-use Prim.Native.Nat.{ℕ, _+_, _≤_, _<_}
+use Prim.Native.Nat.{ℕ, _+_, _*_, _≤_, _<_}
 use mathlib.Core.Bool.{Bool, true, false, cond}
 use mathlib.Core.Path.{_≡_}
 use mathlib.Core.List.{List, []}
+use lib.Dec.{eqb}
 use lib.ListN.{length, getD, take}
 use Rattle.protocol.specs.Format.{Plan}
 use Rattle.protocol.specs.Steps as steps
 use Rattle.protocol.specs.Steps.{onCondition, atBarrier}
 use Rattle.protocol.specs.Rounds as rounds
-use Rattle.protocol.specs.Rounds.{fateAfter, givesAtZero, ruleOf}
+use Rattle.protocol.specs.Rounds.{keep, fateAfter, givesAtZero, ruleOf}
 use Rattle.queue.specs.declared.Queue.{Queue}
 use Rattle.queue.specs.List.{listOf, Good, Below}
 use Rattle.rules.specs.declared.ruling.Goes.{Goes}
@@ -23,9 +24,13 @@ wokenOf wakes queued = cond wakes (take 1 queued) []
 abbrev pub joinedOf : Bool → List ℕ → List ℕ
 joinedOf joins queued = cond joins queued []
 
-abbrev pub rulingOf : Ruling → List ℕ → rounds.Ruling
-rulingOf r queued =
-    rounds.ruling (bytesOf (r .bytes)) (r .held) (goesOf (r .goes)) (wokenOf (r .wakes) queued) (joinedOf (r .joins) queued) (r .outcome)
+abbrev pub rulingOf : Ruling → rounds.Ruling
+rulingOf r =
+    rounds.ruling (bytesOf (r .bytes)) (r .held) (goesOf (r .goes)) (wokenOf (r .wakes) (listOf (r .queued))) (joinedOf (r .joins) (listOf (r .queued))) (r .outcome)
+
+-- those of a list whose fate's code is the key
+abbrev pub found : List ℕ → List ℕ → ℕ → List ℕ
+found on waiting key = keep (λ w. eqb (getD on w 0) key) waiting
 
 -- the code of the holder's fate is that of the fate
 abbrev pub Coded : Goes → Type 0
@@ -36,32 +41,43 @@ pub record AtZero (held : ℕ) (goes : Goes) : Type 0 where
   pub same : goesOf goes ≡ givesAtZero held
   pub coded : Coded goes
 
--- what holds of every ruling, by a holder of so many locks, with these workers queued
-pub record Sound (held : ℕ) (queued : List ℕ) (r : Ruling) : Type 0 where
+-- what holds of every ruling, by a holder of so many locks at a step with this number, where these wait
+pub record Sound (held number : ℕ) (waiting : Queue) (on : List ℕ) (r : Ruling) : Type 0 where
   pub coded : Coded (r .goes)
-  pub some : r .wakes ≡ true → 0 < length queued
+  pub some : r .wakes ≡ true → 0 < length (listOf (r .queued))
   pub apart : r .wakes ≡ true → r .joins ≡ false
   pub rises : r .held ≤ held + 1
+  pub good : Good (r .queued)
+  pub below : Below 8 (listOf (r .queued))
+  pub few : length (listOf (r .queued)) ≤ length (listOf waiting)
+  pub all : r .joins ≡ true → listOf (r .queued) ≡ found on (listOf waiting) (5 + 2 * number)
 
 -- a ruling of the code is that of the definitions
-pub record Means (held : ℕ) (queued : List ℕ) (r : Ruling) (is : rounds.Ruling) : Type 0 where
-  pub same : rulingOf r queued ≡ is
-  pub sound : Sound held queued r
+pub record Means (held number : ℕ) (waiting : Queue) (on : List ℕ) (r : Ruling) (is : rounds.Ruling) : Type 0 where
+  pub same : rulingOf r ≡ is
+  pub sound : Sound held number waiting on r
 
-pub record Asks (op number held : ℕ) (queued : Queue) : Type 0 where
+-- those who wait with the key as their fate's code, asked for by a barrier of this size: nobody, where all who wait are too few for it
+pub record Met (on : List ℕ) (waiting : Queue) (key size : ℕ) (q : Queue) : Type 0 where
+  pub good : Good q
+  pub early : length (listOf waiting) + 1 < size → listOf q ≡ []
+  pub late : size ≤ length (listOf waiting) + 1 → listOf q ≡ found on (listOf waiting) key
+
+pub record Asks (op number held : ℕ) (waiting : Queue) : Type 0 where
   pub least : 32 ≤ op
   pub most : op ≤ 38
   pub operand : number ≤ 15
+  pub barrier : op ≡ 37 → number < 8
   pub count : held ≤ 128
-  pub good : Good queued
-  pub below : Below 8 (listOf queued)
+  pub good : Good waiting
+  pub below : Below 8 (listOf waiting)
 
--- the rule of the definitions, in every plan and state with this size and these queued workers
-pub record Ruled (op number held size : ℕ) (queued : List ℕ) (r : Ruling) : Type 0 where
+-- the rule of the definitions, in every plan with these sizes and every state with these queues
+pub record Ruled (op number held : ℕ) (sizes : List ℕ) (waiting : Queue) (on : List ℕ) (r : Ruling) : Type 0 where
   pub same :
       (plan : Plan) (queue : steps.Queue → List ℕ)
-      → (35 ≤ op → op ≤ 36 → queued ≡ queue (onCondition number))
-      → (op ≡ 37 → queued ≡ queue (atBarrier number))
-      → (op ≡ 37 → getD (plan .sizes) number 0 ≡ size)
-      → rulingOf r queued ≡ ruleOf plan queue held (syncOf op number)
-  pub sound : Sound held queued r
+      → (35 ≤ op → op ≤ 36 → found on (listOf waiting) (4 + 2 * number) ≡ queue (onCondition number))
+      → (op ≡ 37 → found on (listOf waiting) (5 + 2 * number) ≡ queue (atBarrier number))
+      → (op ≡ 37 → getD (plan .sizes) number 0 ≡ getD sizes number 0)
+      → rulingOf r ≡ ruleOf plan queue held (syncOf op number)
+  pub sound : Sound held number waiting on r

@@ -63,10 +63,11 @@ fn free_moved(on: &mut [u64; 8], wakes: bool, joins: bool, queued: Queue)
 }
 
 // Those whom the step moves wait no more, and the holder h has its new fate.
-pub fn settle_fates(on: &mut [u64; 8], r: Ruling, h: usize, queued: Queue)
-    requires { ⌜ (length (now on) ≡ 8) × (h < 8) × Freeing (r .wakes) (r .joins) queued ⌝ }
-    ensures { λ u. ⌜ Settled (now (on .entry)) r h (listOf queued) (now (on .exit)) ⌝ }
+pub fn settle_fates(on: &mut [u64; 8], r: Ruling, h: usize)
+    requires { ⌜ (length (now on) ≡ 8) × (h < 8) × Freeing (r .wakes) (r .joins) (r .queued) ⌝ }
+    ensures { λ u. ⌜ Settled (now (on .entry)) r h (now (on .exit)) ⌝ }
 {
+    let queued = r.queued;
     let goes = r.goes;
     let code = code_after(goes);
     free_moved(on, r.wakes, r.joins, queued);

@@ -66,7 +66,7 @@ pub fn next_after(next: Queue, joins: bool, queued: Queue, goes: Goes, h: u64) -
     }
 }
 
-// Those who go on waiting: the queued are those whose fate's code is the key.
+// Those who go on waiting: where the queued join, they are those whose fate's code is the key.
 fn stay(waiting: Queue, wakes: bool, joins: bool, queued: Queue, on: &[u64; 8], key: u64) -> Queue
     requires { ⌜ Leaving waiting wakes joins queued (now on) key ⌝ }
     ensures { λ q. ⌜ Holds q (without (wokenOf wakes (listOf queued) ++ joinedOf joins (listOf queued)) (listOf waiting)) ⌝ }
@@ -92,11 +92,12 @@ fn wait_last(waiting: Queue, goes: Goes, h: u64) -> Queue
     }
 }
 
-// The three lists after the holder h's step.
-pub fn moved(lists: Lists, r: Ruling, h: u64, queued: Queue, on: &[u64; 8], key: u64) -> Lists
-    requires { ⌜ Room lists r h queued (now on) key ⌝ }
-    ensures { λ after. ⌜ ListsMoved lists (rulingOf r (listOf queued)) h after ⌝ }
+// The three lists after the holder h's step. The key is the code of those who wait at the step's barrier.
+pub fn moved(lists: Lists, r: Ruling, h: u64, on: &[u64; 8], key: u64) -> Lists
+    requires { ⌜ Room lists r h (now on) key ⌝ }
+    ensures { λ after. ⌜ ListsMoved lists (rulingOf r) h after ⌝ }
 {
+    let queued = r.queued;
     let goes = r.goes;
     let wakes = r.wakes;
     let joins = r.joins;

@@ -2,11 +2,12 @@
 use queue::Queue;
 ghost use mathlib.Core.List.{List};
 ghost use mathlib.Core.Path.{_≡_};
-ghost use Prim.Native.Nat.{ℕ, _≤_};
+ghost use Prim.Native.Nat.{ℕ, _+_, _*_, _≤_};
 ghost use Rattle.protocol.specs.Rounds.{failure, commitsAtZero, lockRule, unlockRule, waitRule, signalRule, barrierRule, exitRule};
 ghost use Rattle.queue.specs.List.{listOf, Good, Below};
+ghost use Rattle.queue.specs.declared.Queue.{Queue};
 ghost use Rattle.rules.specs.Codes.{bytesOf};
-ghost use Rattle.rules.specs.Rules.{AtZero, Asks, Means, Ruled};
+ghost use Rattle.rules.specs.Rules.{found, AtZero, Met, Asks, Means, Ruled};
 
 // What becomes of the holder's copies.
 pub enum Bytes {
@@ -22,25 +23,29 @@ pub enum Goes {
     Leaves(u64),
 }
 
-// wakes: the first of the queued workers is woken; joins: all of them join the next list.
+// queued: those who wait where the step says, if its rule asks for them. wakes: the first of them is woken; joins: all of them
+// join the next list.
 pub struct Ruling {
     pub bytes: Bytes,
     pub held: u64,
     pub goes: Goes,
     pub wakes: bool,
     pub joins: bool,
+    pub queued: Queue,
     pub outcome: u8,
 }
 
 fn failed(held: u64) -> Ruling
-    ensures { λ r. ⌜ ((qs : List ℕ) → Means held qs r (failure held)) ⌝ }
+    ensures { λ r. ⌜ ((number : ℕ) (waiting : Queue) (on : List ℕ) → Means held number waiting on r (failure held)) ⌝ }
 {
+    let none = Queue::empty();
     Ruling {
         bytes: Bytes::Lost,
         held,
         goes: Goes::Leaves(2),
         wakes: false,
         joins: false,
+        queued: none,
         outcome: 254,
     }
 }
@@ -63,8 +68,9 @@ fn commits_at_zero(held: u64) -> Bytes
 
 fn lock(held: u64) -> Ruling
     requires { ⌜ held ≤ 128 ⌝ }
-    ensures { λ r. ⌜ ((qs : List ℕ) → Means held qs r (lockRule held)) ⌝ }
+    ensures { λ r. ⌜ ((number : ℕ) (waiting : Queue) (on : List ℕ) → Means held number waiting on r (lockRule held)) ⌝ }
 {
+    let none = Queue::empty();
     let bytes = commits_at_zero(held);
     Ruling {
         bytes,
@@ -72,17 +78,19 @@ fn lock(held: u64) -> Ruling
         goes: Goes::Keeps,
         wakes: false,
         joins: false,
+        queued: none,
         outcome: (held + 1) as u8,
     }
 }
 
 fn unlock(held: u64) -> Ruling
     requires { ⌜ held ≤ 128 ⌝ }
-    ensures { λ r. ⌜ ((qs : List ℕ) → Means held qs r (unlockRule held)) ⌝ }
+    ensures { λ r. ⌜ ((number : ℕ) (waiting : Queue) (on : List ℕ) → Means held number waiting on r (unlockRule held)) ⌝ }
 {
     if held == 0 {
         return failed(held);
     }
+    let none = Queue::empty();
     let left = held - 1;
     let bytes = commits_at_zero(left);
     let goes = gives_at_zero(left);
@@ -92,33 +100,37 @@ fn unlock(held: u64) -> Ruling
         goes,
         wakes: false,
         joins: false,
+        queued: none,
         outcome: left as u8,
     }
 }
 
 fn wait(condition: u64, count: u64) -> Ruling
     requires { ⌜ condition ≤ 15 ⌝ }
-    ensures { λ r. ⌜ ((qs : List ℕ) → Means count qs r (waitRule condition count)) ⌝ }
+    ensures { λ r. ⌜ ((number : ℕ) (waiting : Queue) (on : List ℕ) → Means count number waiting on r (waitRule condition count)) ⌝ }
 {
     if count == 0 {
         return failed(count);
     }
+    let none = Queue::empty();
     Ruling {
         bytes: Bytes::Committed,
         held: count,
         goes: Goes::Leaves(4 + 2 * condition),
         wakes: false,
         joins: false,
+        queued: none,
         outcome: 255,
     }
 }
 
 // Signal and broadcast.
-fn signal(held: u64, queued: Queue) -> Ruling
-    requires { ⌜ Good queued × Below 8 (listOf queued) ⌝ }
-    ensures { λ r. ⌜ Means held (listOf queued) r (signalRule (listOf queued) held) ⌝ }
+fn signal(condition: u64, held: u64, waiting: Queue, on: &[u64; 8]) -> Ruling
+    requires { ⌜ (condition ≤ 15) × Good waiting × Below 8 (listOf waiting) ⌝ }
+    ensures { λ r. ⌜ Means held condition waiting (now (on .entry)) r (signalRule (found (now (on .entry)) (listOf waiting) (4 + 2 * condition)) held) ⌝ }
 {
     let goes = gives_at_zero(held);
+    let queued = waiting.select(on, 4 + 2 * condition);
     if queued.is_empty() {
         return Ruling {
             bytes: Bytes::Committed,
@@ -126,6 +138,7 @@ fn signal(held: u64, queued: Queue) -> Ruling
             goes,
             wakes: false,
             joins: false,
+            queued,
             outcome: 255,
         };
     }
@@ -135,17 +148,30 @@ fn signal(held: u64, queued: Queue) -> Ruling
         goes,
         wakes: true,
         joins: false,
+        queued,
         outcome: queued.first() as u8,
     }
 }
 
-fn barrier(b: u64, size: u8, queued: Queue, held: u64) -> Ruling
-    requires { ⌜ (b ≤ 15) × Good queued ⌝ }
-    ensures { λ r. ⌜ Means held (listOf queued) r (barrierRule b size (listOf queued) held) ⌝ }
+// Those who wait at barrier b; nobody, where all who wait are too few for it.
+fn met(b: u64, size: u8, waiting: Queue, on: &[u64; 8]) -> Queue
+    requires { ⌜ (b ≤ 15) × Good waiting × Below 8 (listOf waiting) ⌝ }
+    ensures { λ q. ⌜ Met (now (on .entry)) waiting (5 + 2 * b) size q ⌝ }
+{
+    if waiting.count() + 1 < size as u64 {
+        return Queue::empty();
+    }
+    waiting.select(on, 5 + 2 * b)
+}
+
+fn barrier(b: u64, size: u8, held: u64, waiting: Queue, on: &[u64; 8]) -> Ruling
+    requires { ⌜ (b ≤ 15) × Good waiting × Below 8 (listOf waiting) ⌝ }
+    ensures { λ r. ⌜ Means held b waiting (now (on .entry)) r (barrierRule b size (found (now (on .entry)) (listOf waiting) (5 + 2 * b)) held) ⌝ }
 {
     if held != 0 {
         return failed(held);
     }
+    let queued = met(b, size, waiting, on);
     if queued.len + 1 < size as u64 {
         return Ruling {
             bytes: Bytes::Committed,
@@ -153,6 +179,7 @@ fn barrier(b: u64, size: u8, queued: Queue, held: u64) -> Ruling
             goes: Goes::Leaves(5 + 2 * b),
             wakes: false,
             joins: false,
+            queued,
             outcome: 0,
         };
     }
@@ -162,30 +189,40 @@ fn barrier(b: u64, size: u8, queued: Queue, held: u64) -> Ruling
         goes: Goes::Gives,
         wakes: false,
         joins: true,
+        queued,
         outcome: size,
     }
 }
 
 fn exit(held: u64) -> Ruling
-    ensures { λ r. ⌜ ((qs : List ℕ) → Means held qs r (exitRule held)) ⌝ }
+    ensures { λ r. ⌜ ((number : ℕ) (waiting : Queue) (on : List ℕ) → Means held number waiting on r (exitRule held)) ⌝ }
 {
     if held != 0 {
         return failed(held);
     }
+    let none = Queue::empty();
     Ruling {
         bytes: Bytes::Committed,
         held,
         goes: Goes::Leaves(1),
         wakes: false,
         joins: false,
+        queued: none,
         outcome: 255,
     }
 }
 
-// The rule of the step with this op and number. size is the barrier's; queued are those who wait where the step says.
-pub fn rule(op: u8, number: u16, held: u64, size: u8, queued: Queue) -> Ruling
-    requires { ⌜ Asks op number held queued ⌝ }
-    ensures { λ r. ⌜ Ruled op number held size (listOf queued) r ⌝ }
+// The rule of the step with this op and number, where these wait, each where its fate's code in `on` says.
+pub fn rule(
+    op: u8,
+    number: u16,
+    held: u64,
+    sizes: &[u8; 8],
+    waiting: Queue,
+    on: &[u64; 8],
+) -> Ruling
+    requires { ⌜ Asks op number held waiting ⌝ }
+    ensures { λ r. ⌜ Ruled op number held (now (sizes .entry)) waiting (now (on .entry)) r ⌝ }
 {
     if op == 32 {
         return lock(held);
@@ -193,14 +230,16 @@ pub fn rule(op: u8, number: u16, held: u64, size: u8, queued: Queue) -> Ruling
     if op == 33 {
         return unlock(held);
     }
+    let n = number as u64;
     if op == 34 {
-        return wait(number as u64, held);
+        return wait(n, held);
     }
     if op == 37 {
-        return barrier(number as u64, size, queued, held);
+        let b = number as usize;
+        return barrier(n, sizes[b], held, waiting, on);
     }
     if op == 38 {
         return exit(held);
     }
-    signal(held, queued)
+    signal(n, held, waiting, on)
 }

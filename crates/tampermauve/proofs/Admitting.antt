@@ -1,17 +1,19 @@
 -- The tests of a run.
-use Prim.Native.Nat.{ℕ, suc, _+_, _<_, _≤_}
+use Prim.Native.Nat.{ℕ, suc, _+_, _<_, _≤_, max}
 use mathlib.Core.Bool.{Bool, true, false, _||_}
 use mathlib.Core.Path.{_≡_, refl, sym, ap, _∙_}
-use mathlib.Core.List.{List}
+use mathlib.Core.List.{List, [], _∷_}
 use native.Mathlib.Omega.{arith}
 use native.Mathlib.Numerals.{add-one}
 use lib.Dec.{leb, ltb}
 use lib.ListN.{length, getD, drop, drop-of-length-le}
 use lib.Seq.{drop-cons}
+use borrow.Author.Tests.{leb-true, leb-false, le-leb, lt-leb}
 use Rattle.protocol.specs.Format.{planOf, records}
 use Rattle.protocol.specs.Refusals.{Refusal, badLength, badMark, badPlan, badBarrier, badWorker, badOp, badOperand, tooManySteps, noSize, skipTooFar, badBuffer, tooManyTurns, badTurn, numberOf, Verdict, accepted, refused, codeOf, check}
 use Rattle.protocol.specs.Turns.{workersOf}
 use Rattle.protocol.specs.Calls.{both, namesNobody, turnLimit}
+use Rattle.protocol.proofs.Records.{or-false}
 use Rattle.protocol.proofs.Accepted.{accepted-file, workers-of}
 use Rattle.plan.specs.Answer.{verdictOf}
 use Rattle.plan.specs.Checking.{LaidOut, CheckedAs}
@@ -21,28 +23,38 @@ use Rattle.tampermauve.specs.Run.{misfitBy, verdictBy, Admits}
 use Rattle.tampermauve.specs.declared.admit.Lengths.{Lengths}
 use Rattle.tampermauve.specs.declared.admit.Admitted.{Admitted}
 
--- turns, one at a time
+-- turns, one at a time: the greatest of those seen, then what is left
 
-behind : (a b c : Bool) → a || (b || c) ≡ (a || b) || c
-behind true b c = refl
-behind false b c = refl
-
-pub stray-step : (n i : ℕ) (turns : List ℕ) (bad : Bool) → i < length turns
-    → bad || namesNobody n (drop i turns) ≡ (bad || leb n (getD turns i 0)) || namesNobody n (drop (i + 1) turns)
+greater-tells : (n a b m : ℕ) (ts : List ℕ) → m ≡ max a b → namesNobody n (m ∷ ts) ≡ namesNobody n (a ∷ b ∷ ts)
 unfolding namesNobody
-stray-step n i turns bad h =
-    ap (λ (ts : List ℕ). bad || namesNobody n ts) (drop-cons turns i 0 h)
-    ∙ (behind bad (leb n (getD turns i 0)) (namesNobody n (drop (suc i) turns))
-    ∙ ap (λ (k : ℕ). (bad || leb n (getD turns i 0)) || namesNobody n (drop k turns)) (sym (add-one i)))
+greater-tells n a b m ts e = go (leb n a) (leb n b) refl refl
+  where
+    told : {t : Bool} → leb n m ≡ t → leb n m || namesNobody n ts ≡ t || namesNobody n ts
+    told = ap (λ (t : Bool). t || namesNobody n ts)
 
-right-false : (b : Bool) → b || false ≡ b
-right-false true = refl
-right-false false = refl
+    go : (s t : Bool) → leb n a ≡ s → leb n b ≡ t → leb n m || namesNobody n ts ≡ s || (t || namesNobody n ts)
+    go true t p q = told (le-leb n m (omega (arith, leb-true n a p)))
+    go false true p q = told (le-leb n m (omega (arith, leb-true n b q)))
+    go false false p q = told (lt-leb n m (omega (arith, leb-false n a p, leb-false n b q)))
 
-pub stray-end : (n i : ℕ) (turns : List ℕ) (bad : Bool) → length turns ≤ i → bad || namesNobody n (drop i turns) ≡ bad
+pub stray-start : (n : ℕ) (turns : List ℕ) → (length turns ≡ 0 → ⊥) → namesNobody n (0 ∷ turns) ≡ namesNobody n turns
+stray-start n [] h = absurd (h refl)
+stray-start n (t ∷ ts) h = sym (greater-tells n 0 t t ts (omega arith))
+
+pub stray-step : (n i : ℕ) (turns : List ℕ) (most m : ℕ) → i < length turns → m ≡ max most (getD turns i 0)
+    → namesNobody n (m ∷ drop (i + 1) turns) ≡ namesNobody n (most ∷ drop i turns)
+stray-step n i turns most m h e =
+    ap (λ (k : ℕ). namesNobody n (m ∷ drop k turns)) (add-one i)
+    ∙ (greater-tells n most (getD turns i 0) m (drop (suc i) turns) e
+    ∙ ap (λ (ts : List ℕ). namesNobody n (most ∷ ts)) (sym (drop-cons turns i 0 h)))
+
+pub none-left : (n i : ℕ) (turns : List ℕ) → length turns ≤ i → namesNobody n (drop i turns) ≡ false
 unfolding namesNobody
-stray-end n i turns bad h =
-    ap (λ (ts : List ℕ). bad || namesNobody n ts) (drop-of-length-le turns {i = i} h) ∙ right-false bad
+none-left n i turns h = ap (λ (ts : List ℕ). namesNobody n ts) (drop-of-length-le turns {i = i} h)
+
+pub stray-end : (n i : ℕ) (turns : List ℕ) (most : ℕ) → length turns ≤ i → namesNobody n (most ∷ drop i turns) ≡ leb n most
+unfolding namesNobody
+stray-end n i turns most h = ap (λ (b : Bool). leb n most || b) (none-left n i turns h) ∙ or-false (leb n most)
 
 -- the number 0 is no refusal's
 

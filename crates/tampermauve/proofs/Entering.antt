@@ -4,13 +4,13 @@ use mathlib.Core.Bool.{Bool, true, false, cond, not, _||_}
 use mathlib.Core.Path.{_≡_, refl, sym, ap, _∙_}
 use mathlib.Core.List.{List}
 use native.Mathlib.Omega.{arith}
-use borrow.Author.Tests.{eqb-true, not-false}
-use lib.Dec.{eqb}
+use borrow.Author.Tests.{eqb-true, ltb-false, not-false}
+use lib.Dec.{eqb, ltb}
 use lib.ListN.{length}
 use Rattle.protocol.specs.Format.{planOf}
 use Rattle.protocol.specs.Refusals.{accepted, check}
 use Rattle.protocol.specs.Turns.{workersOf}
-use Rattle.protocol.specs.Calls.{Buffers, misfit, namesNobody}
+use Rattle.protocol.specs.Calls.{Buffers, misfit, turnLimit, namesNobody}
 use Rattle.engine.specs.Moving.{Playing}
 use Rattle.tampermauve.specs.Run.{lengthsOf, Admits}
 use Rattle.tampermauve.specs.declared.admit.Admitted.{Admitted}
@@ -50,7 +50,7 @@ module _ (file turns : List ℕ) (b : Buffers) (a : Admitted) (h : Admits file t
   pub none-refused : 0 ≡ decided file turns b
   none-refused = sym z ∙ h .code
 
-  tested : Passed (misfit b) (check file) (namesNobody (workersOf (planOf file)) turns)
+  tested : Passed (misfit b) (ltb turnLimit (length turns)) (check file) (namesNobody (workersOf (planOf file)) turns)
   tested = passed file turns b (sym none-refused)
 
   pub fitting : Fits b
@@ -68,6 +68,7 @@ module _ (file turns : List ℕ) (b : Buffers) (a : Admitted) (h : Admits file t
         laid = record { ok = ok; sizesRight = h .layout z .sizes; firstsRight = h .layout z .firsts };
         workers = workers-right;
         known = ap (λ (n : ℕ). namesNobody n turns) workers-right ∙ tested .known;
+        short = ltb-false turnLimit (length turns) (tested .short);
         bytes = record { memorySize = fitting .memory; workSize = fitting .work };
         room = fitting .log;
       }

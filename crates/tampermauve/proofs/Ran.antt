@@ -17,23 +17,24 @@ use Rattle.tampermauve.specs.Run.{verdictBy, Ran}
 use Rattle.tampermauve.proofs.Admitting.{some-number, none-refused}
 
 -- what an answer of 0 says of the tests
-pub record Passed (m : Bool) (v : Verdict) (s : Bool) : Type 0 where
+pub record Passed (m t : Bool) (v : Verdict) (s : Bool) : Type 0 where
   pub buffers : m ≡ false
+  pub short : t ≡ false
   pub file : v ≡ accepted
   pub known : s ≡ false
 
-tests-passed : (m t s : Bool) (v : Verdict) → codeOf (verdictBy m t v s) ≡ 0 → Passed m v s
+tests-passed : (m t s : Bool) (v : Verdict) → codeOf (verdictBy m t v s) ≡ 0 → Passed m t v s
 tests-passed true t s v e = absurd (omega (arith, e))
 tests-passed false true s v e = absurd (omega (arith, e))
 tests-passed false false true accepted e = absurd (omega (arith, e))
-tests-passed false false false accepted e = record { buffers = refl; file = refl; known = refl }
+tests-passed false false false accepted e = record { buffers = refl; short = refl; file = refl; known = refl }
 tests-passed false false s (refused f i) e = absurd (omega (arith, e, some-number f))
 
 module _ (file turns : List ℕ) (b : Buffers) where
   abbrev pub decided : ℕ
   decided = codeOf (verdictBy (misfit b) (ltb turnLimit (length turns)) (check file) (namesNobody (workersOf (planOf file)) turns))
 
-  pub passed : decided ≡ 0 → Passed (misfit b) (check file) (namesNobody (workersOf (planOf file)) turns)
+  pub passed : decided ≡ 0 → Passed (misfit b) (ltb turnLimit (length turns)) (check file) (namesNobody (workersOf (planOf file)) turns)
   passed = tests-passed (misfit b) (ltb turnLimit (length turns)) (namesNobody (workersOf (planOf file)) turns) (check file)
 
   pub returned-code : run file turns b .returned ≡ decided

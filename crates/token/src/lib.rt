@@ -1,9 +1,11 @@
 // Who can move: at the fence everyone who has not arrived, behind it the holder alone.
+pub mod passes;
+
 use queue::Queue;
 ghost use mathlib.Core.Bool.{true, false};
 ghost use mathlib.Core.Path.{_≡_};
 ghost use Prim.Native.Nat.{_+_, _-_, _≤_, _<_};
-ghost use lib.ListN.{length, set, getD};
+ghost use lib.ListN.{length, getD};
 ghost use Rattle.queue.specs.List.{listOf, Good, Below};
 ghost use Rattle.token.specs.Token.{arrivedCan, raised, TurnedOver};
 

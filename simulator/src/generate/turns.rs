@@ -14,6 +14,8 @@ pub enum TurnKind {
     Bursts,
     /// One worker hardly ever.
     Starving,
+    /// Some workers take all turns for a long while, then others do.
+    Spinning,
     /// Only one worker.
     Alone,
     /// Cycles 0 .. n−1 to the end.
@@ -32,11 +34,12 @@ pub enum TurnKind {
 
 impl TurnKind {
     /// Every kind.
-    pub const ALL: [TurnKind; 11] = [
+    pub const ALL: [TurnKind; 12] = [
         TurnKind::Empty,
         TurnKind::Random,
         TurnKind::Bursts,
         TurnKind::Starving,
+        TurnKind::Spinning,
         TurnKind::Alone,
         TurnKind::Cycles,
         TurnKind::Reversed,
@@ -47,11 +50,12 @@ impl TurnKind {
     ];
 
     /// All but the longest.
-    pub const CHEAP: [TurnKind; 10] = [
+    pub const CHEAP: [TurnKind; 11] = [
         TurnKind::Empty,
         TurnKind::Random,
         TurnKind::Bursts,
         TurnKind::Starving,
+        TurnKind::Spinning,
         TurnKind::Alone,
         TurnKind::Cycles,
         TurnKind::Reversed,
@@ -78,6 +82,7 @@ pub fn turns(rng: &mut Rng, kind: TurnKind, workers: usize, steps: usize) -> Vec
         TurnKind::Random => random(rng, workers, length),
         TurnKind::Bursts => bursts(rng, workers, length),
         TurnKind::Starving => starving(rng, workers, length),
+        TurnKind::Spinning => spinning(rng, workers, length),
         TurnKind::Alone => vec![rng.below(workers) as u8; length],
         TurnKind::Cycles => (0..workers as u8).collect::<Vec<_>>().repeat(cycles),
         TurnKind::Reversed => (0..workers as u8).rev().collect::<Vec<_>>().repeat(cycles),
@@ -122,6 +127,19 @@ fn starving(rng: &mut Rng, workers: usize, length: usize) -> Vec<u8> {
             }
         })
         .collect()
+}
+
+/// Neighbours spin at the fence, the rest being kept waiting.
+fn spinning(rng: &mut Rng, workers: usize, length: usize) -> Vec<u8> {
+    let mut list = Vec::new();
+    while list.len() < length {
+        let least = rng.below(workers);
+        let most = rng.between(least, workers - 1);
+        let count = rng.between(1, 300);
+        list.extend((0..count).map(|_| rng.between(least, most) as u8));
+    }
+    list.truncate(length);
+    list
 }
 
 fn shuffled(rng: &mut Rng, workers: usize, cycles: usize) -> Vec<u8> {

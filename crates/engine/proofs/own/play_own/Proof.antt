@@ -2,21 +2,20 @@
 use borrow.Author.Needs.{needs}
 use native.Mathlib.Omega.{arith}
 use Prim.Native.Nat.{_-_}
-use mathlib.Core.Logic.{⊎-elim}
 use mathlib.Core.Path.{_∙_, sym}
 use lib.ListN.{length}
 use Rattle.engine.proofs.Playing.{turn-small}
 use Rattle.engine.proofs.Stepping.{small, bytes-right, marks-right, fetch-fits, own-fits}
-use Rattle.engine.proofs.OwnTurns.{SoFar, so-as, none-yet, passes, here, moves-on}
+use Rattle.engine.proofs.OwnTurns.{SoFar, none-yet, moves-small, passes, here, moves-on}
 use Rattle.engine.proofs.own.play_own.Statement.{statement}
 use Rattle.engine.proofs.own.play_own.Tie as tie
 
 abbrev Inv-loop : tie.InvT-loop
-Inv-loop file firsts turns from can places₀ held registers₀ copied₀ memory work₀ i₀ moves₀ places registers copied work i moves =
-    SoFar file firsts turns from can places₀ held registers₀ copied₀ memory work₀ i moves places registers copied work
+Inv-loop file firsts turns from made can places₀ held registers₀ copied₀ memory work₀ i₀ moves₀ places registers copied work i moves =
+    SoFar file firsts turns from made can places₀ held registers₀ copied₀ memory work₀ i moves places registers copied work
 
 abbrev μ-loop : tie.MeasureT-loop
-μ-loop file firsts turns from can places₀ held registers₀ copied₀ memory work₀ i₀ moves₀ places registers copied work i moves =
+μ-loop file firsts turns from made can places₀ held registers₀ copied₀ memory work₀ i₀ moves₀ places registers copied work i moves =
     length turns - i
 
 loop-holds : tie.Need-loop-holds Inv-loop μ-loop
@@ -69,17 +68,17 @@ returns c =
       shows = so .shows;
     }
 
-mul-t26 : tie.Need-mul-t26 Inv-loop μ-loop
-mul-t26 c = omega (arith, turn-small (c .before .before .before .before .before .before .before .before .before .before .before .before .before .before .before .pre .playing) _ (c .before .before .before .before .before .before .before .before .before .loop-test .taken))
+mul-t27 : tie.Need-mul-t27 Inv-loop μ-loop
+mul-t27 c = omega (arith, turn-small (c .before .before .before .before .before .before .before .before .before .before .before .before .before .before .before .pre .playing) _ (c .before .before .before .before .before .before .before .before .before .loop-test .taken))
 
-element-copy-out-t40 : tie.Need-element-copy-out-t40 Inv-loop μ-loop
-element-copy-out-t40 c = omega (arith, turn-small (c .before .before .before .before .before .before .before .before .before .before .before .before .before .before .before .pre .playing) _ (c .before .before .before .before .before .before .before .before .before .loop-test .taken))
+element-copy-out-t41 : tie.Need-element-copy-out-t41 Inv-loop μ-loop
+element-copy-out-t41 c = omega (arith, turn-small (c .before .before .before .before .before .before .before .before .before .before .before .before .before .before .before .pre .playing) _ (c .before .before .before .before .before .before .before .before .before .loop-test .taken))
 
-mul-t29 : tie.Need-mul-t29 Inv-loop μ-loop
-mul-t29 c = omega (arith, turn-small (c .before .before .before .before .before .before .before .before .before .before .before .before .before .before .before .before .pre .playing) _ (c .before .before .before .before .before .before .before .before .before .before .loop-test .taken))
+mul-t30 : tie.Need-mul-t30 Inv-loop μ-loop
+mul-t30 c = omega (arith, turn-small (c .before .before .before .before .before .before .before .before .before .before .before .before .before .before .before .before .pre .playing) _ (c .before .before .before .before .before .before .before .before .before .before .loop-test .taken))
 
-element-copy-out-t43 : tie.Need-element-copy-out-t43 Inv-loop μ-loop
-element-copy-out-t43 c = omega (arith, turn-small (c .before .before .before .before .before .before .before .before .before .before .before .before .before .before .before .before .pre .playing) _ (c .before .before .before .before .before .before .before .before .before .before .loop-test .taken))
+element-copy-out-t44 : tie.Need-element-copy-out-t44 Inv-loop μ-loop
+element-copy-out-t44 c = omega (arith, turn-small (c .before .before .before .before .before .before .before .before .before .before .before .before .before .before .before .before .pre .playing) _ (c .before .before .before .before .before .before .before .before .before .before .loop-test .taken))
 
 own-move-requires : tie.Need-own-move-requires Inv-loop μ-loop
 own-move-requires c κs =
@@ -99,22 +98,30 @@ element-write-registers : tie.Need-element-write-registers Inv-loop μ-loop
 element-write-registers c = omega (arith, turn-small (c .before .before .before .before .before .before .before .before .before .before .before .before .before .before .before .before .before .before .before .before .before .before .pre .playing) _ (c .before .before .before .before .before .before .before .before .before .before .before .before .before .before .before .before .loop-test .taken))
 
 add-moves : tie.Need-add-moves Inv-loop μ-loop
-add-moves c = omega (arith, c .before .before .before .before .before .before .before .before .before .before .before .before .before .before .before .before .before .loop .inv .few, c .before .before .before .before .before .before .before .before .before .before .before .before .before .before .before .before .loop-test .taken, c .before .before .before .before .before .before .before .before .before .before .before .before .before .before .before .before .before .before .before .before .before .before .good .1 .1 .0)
+add-moves c = omega (arith, moves-small (c .before .before .before .before .before .before .before .before .before .before .before .before .before .before .before .before .before .loop .inv) (c .before .before .before .before .before .before .before .before .before .before .before .before .before .before .before .before .before .before .before .before .before .before .pre))
 
 add-i : tie.Need-add-i Inv-loop μ-loop
-add-i c = omega (arith, c .before .before .before .loop-test .taken)
+add-i c = omega (arith, c .before .before .before .before .before .before .before .before .before .before .before .before .before .before .before .before .loop-test .taken)
 
 loop-less : tie.Need-loop-less Inv-loop μ-loop
-loop-less c = search needs
+loop-less c = omega (arith, c .before .before .before .before .before .before .before .before .before .before .before .before .before .before .before .before .loop-test .taken)
 
 loop-again : tie.Need-loop-again Inv-loop μ-loop
-loop-again c =
-    let so = c .before .before .before .before .loop .inv in
-    let l = c .before .before .before .loop-test .taken in
-    ⊎-elim
-    (λ x. so-as (moves-on so l (x .0 .taken) (x .4 .ensures) (omega (arith, x .6 .left)) (x .11 .ensures)) (x .14) (x .15) (x .16) (x .17) (x .18))
-    (λ x. so-as (passes so l (x .0 .left)) (x .1) (x .2) (x .3) (x .4) (x .5))
-    (c .if1 .came)
+loop-again c = moves-on (c .before .before .before .before .before .before .before .before .before .before .before .before .before .before .before .before .before .loop .inv) (c .before .before .before .before .before .before .before .before .before .before .before .before .before .before .before .before .loop-test .taken) (c .before .before .before .before .before .before .before .before .before .before .before .before .before .if1 .taken) (c .before .before .before .before .before .before .before .before .before .fetch .ensures) (omega (arith, c .before .before .before .before .before .before .before .if2 .left)) (c .before .before .own-move .ensures)
+
+add-pass-over : tie.Need-add-pass-over Inv-loop μ-loop
+add-pass-over c = omega (arith, c .before .before .before .loop-test .taken)
+
+pass-over-requires : tie.Need-pass-over-requires Inv-loop μ-loop
+pass-over-requires c κs =
+    let p = c .before .before .before .before .before .before .before .before .before .pre .playing in
+    record { within = omega (arith, c .before .before .before .loop-test .taken); short = p .short; named = turn-small p }
+
+loop-less-2 : tie.Need-loop-less-2 Inv-loop μ-loop
+loop-less-2 c = omega (arith, c .before .before .before .before .loop-test .taken, c .pass-over .ensures .onward)
+
+loop-again-2 : tie.Need-loop-again-2 Inv-loop μ-loop
+loop-again-2 c = passes (c .before .before .before .before .before .loop .inv) (c .before .if1 .left) (c .pass-over .ensures)
 
 same-length-2 : tie.Need-same-length-2 Inv-loop μ-loop
 same-length-2 c = c .before .loop .inv .shows (c .before .before .before .before .before .before .pre) .bytes .sizes .workSize ∙ sym (c .before .before .before .before .before .before .pre .shows .bytes .sizes .workSize)
@@ -150,10 +157,10 @@ play-own-spec =
     fetch-requires
     same-length
     returns
-    mul-t26
-    element-copy-out-t40
-    mul-t29
-    element-copy-out-t43
+    mul-t27
+    element-copy-out-t41
+    mul-t30
+    element-copy-out-t44
     own-move-requires
     mul-places
     element-write-places
@@ -163,5 +170,9 @@ play-own-spec =
     add-i
     loop-less
     loop-again
+    add-pass-over
+    pass-over-requires
+    loop-less-2
+    loop-again-2
     same-length-2
     returns-2)

@@ -11,7 +11,7 @@ use Rattle.plan.specs.Reading.{recordAt, before, verdictFrom}
 use Rattle.plan.specs.Stepping.{laterRuling}
 use Rattle.plan.specs.declared.table.Row.{Row}
 use Rattle.plan.specs.declared.decode.Record.{Record}
-use Rattle.plan.specs.declared.decode.Decoded.the-variants.{Read, Unmarked}
+use Rattle.plan.specs.declared.decode.Decoded.the-variants.{Unmarked}
 use Rattle.plan.proofs.Readings.{length-before, unmarked-step, not-refused}
 use Rattle.plan.proofs.Stepped.{Kept, OneStep, kept-first, inside, later-step, worker-below, step-more, all-read, firsts-right}
 use Rattle.plan.proofs.steps.read_by_table.Statement.{statement}

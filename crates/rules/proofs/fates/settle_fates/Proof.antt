@@ -1,7 +1,6 @@
 -- `settle_fates` meets its contract. Assumes nothing.
 use borrow.Author.Needs.{needs}
 use denote.Ref.{now}
-use Rattle.queue.specs.List.{listOf}
 use Rattle.rules.proofs.Freed.{settled}
 use Rattle.rules.proofs.fates.settle_fates.Statement.{statement}
 use Rattle.rules.proofs.fates.settle_fates.Tie as tie
@@ -19,9 +18,9 @@ element-write-on : tie.Need-element-write-on
 element-write-on c = search needs
 
 returns : tie.Need-returns
-returns c = let s = c .before .before .before in
+returns c = let s = c .before .before .before .before in
     let a = s .args in
-    settled (now (a .on)) (a .r) (a .h) (listOf (a .queued)) _ _ (s .pre .0) (s .pre .1) (c .free-moved .ensures) (c .before .before .code-after .ensures)
+    settled (now (a .on)) (a .r) (a .h) _ _ (s .pre .0) (s .pre .1) (c .free-moved .ensures) (c .before .before .code-after .ensures)
 
 pub settle-fates-spec : {M : Type 1} → statement M
 settle-fates-spec =

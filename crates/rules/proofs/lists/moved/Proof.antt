@@ -8,31 +8,31 @@ use lib.ListN.{length}
 use Rattle.protocol.specs.Rounds.{member}
 use Rattle.queue.specs.List.{listOf}
 use Rattle.rules.specs.Rules.{wokenOf, joinedOf}
-use Rattle.rules.proofs.Moving.{length-keep, queued-short}
+use Rattle.rules.proofs.Moving.{length-keep}
 use Rattle.rules.proofs.lists.moved.Statement.{statement}
 use Rattle.rules.proofs.lists.moved.Tie as tie
 
 list-after-requires : tie.Need-list-after-requires
-list-after-requires c κs = let room = c .before .before .before .pre in
+list-after-requires c κs = let room = c .before .before .before .before .pre in
     record {
       good = room .list;
       holder = omega arith;
       held = room .held;
-      fits = omega (arith, queued-short (room .leaving), room .total);
+      fits = omega (arith, room .few, room .total);
       some = room .leaving .some;
     }
 
 next-after-requires : tie.Need-next-after-requires
-next-after-requires c κs = let room = c .before .before .before .before .pre in
-    (room .next, room .good, omega (arith, queued-short (room .leaving), room .total, room .held), omega (arith, room .holder))
+next-after-requires c κs = let room = c .before .before .before .before .before .pre in
+    (room .next, room .good, omega (arith, room .few, room .total, room .held), omega (arith, room .holder))
 
 stay-requires : tie.Need-stay-requires
 stay-requires c κs = search needs
 
 wait-last-requires : tie.Need-wait-last-requires
-wait-last-requires c κs = let s = c .before .before .before .before .before .before in
+wait-last-requires c κs = let s = c .before .before .before .before .before .before .before in
     let a = s .args in
-    let qs = listOf (a .queued) in
+    let qs = listOf (a .r .queued) in
     let left = length-keep (λ w. not (member w (wokenOf (a .r .wakes) qs ++ joinedOf (a .r .joins) qs))) (listOf (a .lists .waiting)) in
     (c .stay .ensures .good, omega (arith, ap length (c .stay .ensures .list), left, s .pre .total, s .pre .held), omega (arith, s .pre .holder))
 

@@ -1,7 +1,7 @@
 -- `barrier` meets its contract. Assumes nothing.
 use borrow.Author.Needs.{needs}
 use native.Mathlib.Omega.{arith}
-use borrow.Author.Tests.{lt-ltb, le-ltb, eq-eqb, ne-eqb}
+use borrow.Author.Tests.{le-ltb, eq-eqb, ne-eqb}
 use Prim.Native.Nat.{_-_}
 use mathlib.Core.Path.{refl, ap}
 use lib.ListN.{length}
@@ -10,7 +10,8 @@ use Rattle.queue.specs.List.{listOf}
 use Rattle.queue.proofs.Digits.{length-list}
 use Rattle.rules.specs.Codes.{fateCode}
 use Rattle.rules.proofs.Codes.{fate-code}
-use Rattle.rules.proofs.Rulings.{calm}
+use Rattle.rules.proofs.Moving.{met-few, met-all, met-below, met-short}
+use Rattle.rules.proofs.Rulings.{asleep}
 use Rattle.rules.proofs.ruling.barrier.Statement.{statement}
 use Rattle.rules.proofs.ruling.barrier.Tie as tie
 
@@ -18,31 +19,54 @@ failed-requires : tie.Need-failed-requires
 failed-requires c κs = search needs
 
 returns : tie.Need-returns
-returns c = rw (ne-eqb (c .before .before .args .held) 0 (c .before .if1 .taken)) (c .failed .ensures _)
+returns c = rw (ne-eqb (c .before .before .args .held) 0 (c .before .if1 .taken)) (c .failed .ensures _ _ _)
+
+met-requires : tie.Need-met-requires
+met-requires c κs = search needs
 
 add-if2 : tie.Need-add-if2
-add-if2 c = search needs
+add-if2 c = omega (arith, c .before .met .ensures .good .short)
 
-mul-t9 : tie.Need-mul-t9
-mul-t9 c = search needs
+mul-t11 : tie.Need-mul-t11
+mul-t11 c = search needs
 
-add-t10 : tie.Need-add-t10
-add-t10 c = search needs
+add-t12 : tie.Need-add-t12
+add-t12 c = search needs
 
 returns-2 : tie.Need-returns-2
-returns-2 c = let a = c .before .before .before .args in
+returns-2 c =
+    let q = c .before .before .met in
+    let s = c .before .before .before in
+    let a = s .before .args in
+    let m = q .ensures in
     let f = waiting (atBarrier (a .b)) in
-    let fewer = lt-ltb (length (listOf (a .queued))) (a .size - 1) (omega (arith, length-list (a .queued))) in
+    let fewer = met-few m (omega (arith, length-list (q .result), c .if2 .taken)) in
     record {
-      same = rw (eq-eqb (a .held) 0 (c .before .before .if1 .left), fewer, fate-code f);
-      sound = calm refl (ap fateCode (fate-code f)) (omega arith);
+      same = rw (eq-eqb (a .held) 0 (s .if1 .left), fewer, fate-code f);
+      sound = asleep refl (ap fateCode (fate-code f)) (omega arith) (m .good) (met-below m (s .before .pre .2)) (met-short m) (λ y. cc);
     }
 
 returns-3 : tie.Need-returns-3
-returns-3 c = let a = c .before .before .before .args in
-    let all = le-ltb (length (listOf (a .queued))) (a .size - 1) (omega (arith, length-list (a .queued))) in
-    record { same = rw (eq-eqb (a .held) 0 (c .before .before .if1 .left), all); sound = calm refl refl (omega arith) }
+returns-3 c =
+    let q = c .before .before .met in
+    let s = c .before .before .before in
+    let a = s .before .args in
+    let m = q .ensures in
+    let all = met-all m (omega (arith, length-list (q .result), c .if2 .left)) in
+    record {
+      same = rw (eq-eqb (a .held) 0 (s .if1 .left), ← all, le-ltb (length (listOf (q .result))) (a .size - 1) (omega (arith, length-list (q .result), c .if2 .left)));
+      sound = asleep refl refl (omega arith) (m .good) (met-below m (s .before .pre .2)) (met-short m) (λ y. all);
+    }
 
 pub barrier-spec : {M : Type 1} → statement M
 barrier-spec =
-    tie.close (tie.spec failed-requires returns add-if2 mul-t9 add-t10 returns-2 returns-3)
+    tie.close
+    (tie.spec
+    failed-requires
+    returns
+    met-requires
+    add-if2
+    mul-t11
+    add-t12
+    returns-2
+    returns-3)

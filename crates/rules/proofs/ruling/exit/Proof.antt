@@ -12,11 +12,15 @@ failed-requires : tie.Need-failed-requires
 failed-requires c κs = search needs
 
 returns : tie.Need-returns
-returns c = λ qs. rw (ne-eqb (c .before .before .args .held) 0 (c .before .if1 .taken)) (c .failed .ensures qs)
+returns c = λ number waiting on. rw (ne-eqb (c .before .before .args .held) 0 (c .before .if1 .taken)) (c .failed .ensures number waiting on)
+
+empty-requires : tie.Need-empty-requires
+empty-requires c κs = search needs
 
 returns-2 : tie.Need-returns-2
 unfolding fateOf
-returns-2 c = λ qs. record { same = rw (eq-eqb (c .before .args .held) 0 (c .if1 .left)); sound = calm refl refl (omega arith) }
+returns-2 c = λ number waiting on.
+    record { same = rw (eq-eqb (c .before .before .args .held) 0 (c .before .if1 .left)); sound = calm refl refl refl (omega arith) (c .empty .ensures) }
 
 pub exit-spec : {M : Type 1} → statement M
-exit-spec = tie.close (tie.spec failed-requires returns returns-2)
+exit-spec = tie.close (tie.spec failed-requires returns empty-requires returns-2)

@@ -1,4 +1,5 @@
 -- `failed` meets its contract. Assumes nothing.
+use borrow.Author.Needs.{needs}
 use native.Mathlib.Omega.{arith}
 use mathlib.Core.Path.{refl}
 use Rattle.rules.specs.Codes.{fateOf}
@@ -6,9 +7,12 @@ use Rattle.rules.proofs.Rulings.{calm}
 use Rattle.rules.proofs.ruling.failed.Statement.{statement}
 use Rattle.rules.proofs.ruling.failed.Tie as tie
 
+empty-requires : tie.Need-empty-requires
+empty-requires c κs = search needs
+
 returns : tie.Need-returns
 unfolding fateOf
-returns c = λ qs. record { same = refl; sound = calm refl refl (omega arith) }
+returns c = λ number waiting on. record { same = refl; sound = calm refl refl refl (omega arith) (c .empty .ensures) }
 
 pub failed-spec : {M : Type 1} → statement M
-failed-spec = tie.close (tie.spec returns)
+failed-spec = tie.close (tie.spec empty-requires returns)

@@ -6,20 +6,23 @@ use Rattle.rules.proofs.Rulings.{calm}
 use Rattle.rules.proofs.ruling.lock.Statement.{statement}
 use Rattle.rules.proofs.ruling.lock.Tie as tie
 
+empty-requires : tie.Need-empty-requires
+empty-requires c κs = search needs
+
 commits-at-zero-requires : tie.Need-commits-at-zero-requires
 commits-at-zero-requires c κs = search needs
 
-add-t3 : tie.Need-add-t3
-add-t3 c = search needs
+add-t4 : tie.Need-add-t4
+add-t4 c = search needs
 
-add-t5 : tie.Need-add-t5
-add-t5 c = search needs
+add-t6 : tie.Need-add-t6
+add-t6 c = search needs
 
-cast-t6 : tie.Need-cast-t6
-cast-t6 c = search needs
+cast-t7 : tie.Need-cast-t7
+cast-t7 c = search needs
 
 returns : tie.Need-returns
-returns c = λ qs. record { same = rw (c .commits-at-zero .ensures); sound = calm refl refl (omega arith) }
+returns c = λ number waiting on. record { same = rw (c .commits-at-zero .ensures); sound = calm refl refl refl (omega arith) (c .before .empty .ensures) }
 
 pub lock-spec : {M : Type 1} → statement M
-lock-spec = tie.close (tie.spec commits-at-zero-requires add-t3 add-t5 cast-t6 returns)
+lock-spec = tie.close (tie.spec empty-requires commits-at-zero-requires add-t4 add-t6 cast-t7 returns)

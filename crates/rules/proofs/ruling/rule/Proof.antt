@@ -9,31 +9,34 @@ lock-requires : tie.Need-lock-requires
 lock-requires c κs = search needs
 
 returns : tie.Need-returns
-returns c = by-lock (c .before .if1 .taken) (c .lock .ensures _)
+returns c = by-lock (c .before .if1 .taken) (c .lock .ensures _ _ _)
 
 unlock-requires : tie.Need-unlock-requires
 unlock-requires c κs = search needs
 
 returns-2 : tie.Need-returns-2
-returns-2 c = by-unlock (c .before .if2 .taken) (c .unlock .ensures _)
+returns-2 c = by-unlock (c .before .if2 .taken) (c .unlock .ensures _ _ _)
 
 wait-requires : tie.Need-wait-requires
 wait-requires c κs = search needs
 
 returns-3 : tie.Need-returns-3
-returns-3 c = by-wait (c .before .if3 .taken) (c .wait .ensures _)
+returns-3 c = by-wait (c .before .if3 .taken) (c .wait .ensures _ _ _)
+
+element-copy-out-barrier : tie.Need-element-copy-out-barrier
+element-copy-out-barrier c = c .before .before .before .before .pre .barrier (c .if4 .taken)
 
 barrier-requires : tie.Need-barrier-requires
 barrier-requires c κs = search needs
 
 returns-4 : tie.Need-returns-4
-returns-4 c = by-barrier (c .before .if4 .taken) (c .barrier .ensures)
+returns-4 c = by-barrier (c .before .before .if4 .taken) (c .barrier .ensures)
 
 exit-requires : tie.Need-exit-requires
 exit-requires c κs = search needs
 
 returns-5 : tie.Need-returns-5
-returns-5 c = by-exit (c .before .if5 .taken) (c .exit .ensures _)
+returns-5 c = by-exit (c .before .if5 .taken) (c .exit .ensures _ _ _)
 
 signal-requires : tie.Need-signal-requires
 signal-requires c κs = search needs
@@ -51,6 +54,7 @@ rule-spec =
     returns-2
     wait-requires
     returns-3
+    element-copy-out-barrier
     barrier-requires
     returns-4
     exit-requires

@@ -1,48 +1,91 @@
 -- `signal` meets its contract. Assumes nothing.
 use borrow.Author.Needs.{needs}
 use native.Mathlib.Omega.{arith}
-use mathlib.Core.Path.{refl, sym, _∙_}
+use Prim.Native.Nat.{_+_, _*_}
+use mathlib.Core.Path.{_≡_, refl, sym, _∙_}
+use denote.Ref.{now}
 use Rattle.queue.specs.List.{listOf}
 use Rattle.queue.proofs.Laws.{some-in, below-first}
-use Rattle.rules.proofs.Rulings.{calm, wakes-none, wakes-first}
+use Rattle.rules.specs.Rules.{found}
+use Rattle.rules.proofs.Moving.{length-keep, below-keep}
+use Rattle.rules.proofs.Rulings.{asleep, wakes-none, wakes-first}
 use Rattle.rules.proofs.ruling.signal.Statement.{statement}
 use Rattle.rules.proofs.ruling.signal.Tie as tie
 
 gives-at-zero-requires : tie.Need-gives-at-zero-requires
 gives-at-zero-requires c κs = search needs
 
+mul-select : tie.Need-mul-select
+mul-select c = search needs
+
+add-select : tie.Need-add-select
+add-select c = search needs
+
+select-requires : tie.Need-select-requires
+select-requires c κs = search needs
+
 is-empty-requires : tie.Need-is-empty-requires
 is-empty-requires c κs = search needs
 
+-- the queued are those who wait on the condition
+asked : (c : tie.After-select) → listOf (c .select .result) ≡ found (now (c .before .before .args .on)) (listOf (c .before .before .args .waiting)) (4 + 2 * c .before .before .args .condition)
+asked c = c .select .ensures .list
+
 returns : tie.Need-returns
-returns c = let s = c .before .before .before in
+returns c =
+    let q = c .before .before .select in
+    let e₀ = asked (c .before .before) in
+    let gives = c .before .before .before .gives-at-zero .ensures in
+    let p = c .before .before .before .before .pre in
     let e = sym (c .before .is-empty .ensures) ∙ c .if1 .taken in
     record {
-      same = rw (wakes-none (listOf (s .args .queued)) (s .args .held) e, c .before .before .gives-at-zero .ensures .same);
-      sound = calm refl (c .before .before .gives-at-zero .ensures .coded) (omega arith);
+      same = rw (← e₀, wakes-none (listOf (q .result)) (c .before .before .before .before .args .held) e, gives .same);
+      sound =
+          asleep refl (gives .coded) (omega arith) (q .ensures .good) (rw e₀ (below-keep 8 _ _ (p .2))) (rw e₀ (length-keep _ _))
+          (λ y. cc);
     }
 
 first-requires : tie.Need-first-requires
-first-requires c κs = some-in (listOf (c .before .before .before .args .queued)) (sym (c .before .is-empty .ensures) ∙ c .if1 .left)
+first-requires c κs = some-in (listOf (c .before .before .select .result)) (sym (c .before .is-empty .ensures) ∙ c .if1 .left)
 
-cast-t8 : tie.Need-cast-t8
-cast-t8 c = let qs = listOf (c .before .before .before .before .args .queued) in
-    omega (arith, c .first .ensures, below-first 8 qs (some-in qs (sym (c .before .before .is-empty .ensures) ∙ c .before .if1 .left)) (c .before .before .before .before .pre .1))
+cast-t12 : tie.Need-cast-t12
+cast-t12 c =
+    let q = c .before .before .before .select in
+    let qs = listOf (q .result) in
+    let some = some-in qs (sym (c .before .before .is-empty .ensures) ∙ c .before .if1 .left) in
+    omega (arith, c .first .ensures, below-first 8 qs some (rw (q .ensures .list) (below-keep 8 _ _ (c .before .before .before .before .before .pre .2))))
 
 returns-2 : tie.Need-returns-2
-returns-2 c = let s = c .before .before .before .before in
+returns-2 c =
+    let q = c .before .before .before .select in
+    let e₀ = asked (c .before .before .before) in
+    let gives = c .before .before .before .before .gives-at-zero .ensures in
+    let s = c .before .before .before .before .before in
     let e = sym (c .before .before .is-empty .ensures) ∙ c .before .if1 .left in
     record {
-      same = rw (wakes-first (listOf (s .args .queued)) (s .args .held) e, c .before .before .before .gives-at-zero .ensures .same, c .first .ensures);
+      same = rw (← e₀, wakes-first (listOf (q .result)) (s .args .held) e, gives .same, c .first .ensures);
       sound = record {
-        coded = c .before .before .before .gives-at-zero .ensures .coded;
-        some = λ y. some-in (listOf (s .args .queued)) e;
+        coded = gives .coded;
+        some = λ y. some-in (listOf (q .result)) e;
         apart = λ y. refl;
         rises = omega arith;
+        good = q .ensures .good;
+        below = rw e₀ (below-keep 8 _ _ (s .pre .2));
+        few = rw e₀ (length-keep _ _);
+        all = λ y. cc;
       };
     }
 
 pub signal-spec : {M : Type 1} → statement M
 signal-spec =
     tie.close
-    (tie.spec gives-at-zero-requires is-empty-requires returns first-requires cast-t8 returns-2)
+    (tie.spec
+    gives-at-zero-requires
+    mul-select
+    add-select
+    select-requires
+    is-empty-requires
+    returns
+    first-requires
+    cast-t12
+    returns-2)

@@ -11,7 +11,10 @@ failed-requires : tie.Need-failed-requires
 failed-requires c κs = search needs
 
 returns : tie.Need-returns
-returns c = λ qs. rw (eq-eqb (c .before .before .args .held) 0 (c .before .if1 .taken)) (c .failed .ensures qs)
+returns c = λ number waiting on. rw (eq-eqb (c .before .before .args .held) 0 (c .before .if1 .taken)) (c .failed .ensures number waiting on)
+
+empty-requires : tie.Need-empty-requires
+empty-requires c κs = search needs
 
 sub-left : tie.Need-sub-left
 sub-left c = search needs
@@ -22,14 +25,15 @@ commits-at-zero-requires c κs = search needs
 gives-at-zero-requires : tie.Need-gives-at-zero-requires
 gives-at-zero-requires c κs = search needs
 
-cast-t6 : tie.Need-cast-t6
-cast-t6 c = search needs
+cast-t7 : tie.Need-cast-t7
+cast-t7 c = search needs
 
 returns-2 : tie.Need-returns-2
-returns-2 c = λ qs.
+returns-2 c = λ number waiting on.
+    let s = c .before .before .before in
     record {
-      same = rw (ne-eqb (c .before .before .before .args .held) 0 (c .before .before .if1 .left), c .before .commits-at-zero .ensures, c .gives-at-zero .ensures .same);
-      sound = calm refl (c .gives-at-zero .ensures .coded) (omega arith);
+      same = rw (ne-eqb (s .before .args .held) 0 (s .if1 .left), c .before .commits-at-zero .ensures, c .gives-at-zero .ensures .same);
+      sound = calm refl refl (c .gives-at-zero .ensures .coded) (omega arith) (c .before .before .empty .ensures);
     }
 
 pub unlock-spec : {M : Type 1} → statement M
@@ -38,8 +42,9 @@ unlock-spec =
     (tie.spec
     failed-requires
     returns
+    empty-requires
     sub-left
     commits-at-zero-requires
     gives-at-zero-requires
-    cast-t6
+    cast-t7
     returns-2)

@@ -14,21 +14,25 @@ failed-requires : tie.Need-failed-requires
 failed-requires c κs = search needs
 
 returns : tie.Need-returns
-returns c = λ qs. rw (eq-eqb (c .before .before .args .count) 0 (c .before .if1 .taken)) (c .failed .ensures qs)
+returns c = λ number queue on. rw (eq-eqb (c .before .before .args .count) 0 (c .before .if1 .taken)) (c .failed .ensures number queue on)
 
-mul-t5 : tie.Need-mul-t5
-mul-t5 c = search needs
+empty-requires : tie.Need-empty-requires
+empty-requires c κs = search needs
 
-add-t6 : tie.Need-add-t6
-add-t6 c = search needs
+mul-t6 : tie.Need-mul-t6
+mul-t6 c = search needs
+
+add-t7 : tie.Need-add-t7
+add-t7 c = search needs
 
 returns-2 : tie.Need-returns-2
-returns-2 c = λ qs.
-    let f = waiting (onCondition (c .before .args .condition)) in
+returns-2 c = λ number queue on.
+    let a = c .before .before .args in
+    let f = waiting (onCondition (a .condition)) in
     record {
-      same = rw (ne-eqb (c .before .args .count) 0 (c .if1 .left), fate-code f);
-      sound = calm refl (ap fateCode (fate-code f)) (omega arith);
+      same = rw (ne-eqb (a .count) 0 (c .before .if1 .left), fate-code f);
+      sound = calm refl refl (ap fateCode (fate-code f)) (omega arith) (c .empty .ensures);
     }
 
 pub wait-spec : {M : Type 1} → statement M
-wait-spec = tie.close (tie.spec failed-requires returns mul-t5 add-t6 returns-2)
+wait-spec = tie.close (tie.spec failed-requires returns empty-requires mul-t6 add-t7 returns-2)

@@ -1,25 +1,29 @@
 use native.Mathlib.Omega.{arith}
 use borrow.Author.Needs.{needs}
 use Prim.Native.Nat.{_-_, _≤_}
-use mathlib.Core.Bool.{_||_}
-use mathlib.Core.Path.{_≡_, refl, sym, _∙_}
+use mathlib.Core.Logic.{⊎-elim}
+use mathlib.Core.Path.{_≡_, sym, _∙_}
+use mathlib.Core.List.{_∷_}
 use lib.ListN.{length, drop}
 use Rattle.protocol.specs.Calls.{namesNobody}
-use Rattle.tampermauve.proofs.Admitting.{stray-step, stray-end}
+use Rattle.tampermauve.proofs.Admitting.{stray-start, stray-step, none-left, stray-end}
 use Rattle.tampermauve.proofs.admit.names_nobody.Statement.{statement}
 use Rattle.tampermauve.proofs.admit.names_nobody.Tie as tie
 
 abbrev Inv-loop : tie.InvT-loop
-Inv-loop turns n bad₀ i₀ bad i = (i ≤ length turns) × (bad || namesNobody n (drop i turns) ≡ namesNobody n turns)
+Inv-loop turns n most₀ i₀ most i = (i ≤ length turns) × (namesNobody n (most ∷ drop i turns) ≡ namesNobody n turns)
 
 abbrev μ-loop : tie.MeasureT-loop
-μ-loop turns n bad₀ i₀ bad i = length turns - i
+μ-loop turns n most₀ i₀ most i = length turns - i
+
+returns : tie.Need-returns Inv-loop μ-loop
+returns c = sym (none-left _ 0 (c .before .args .turns .now) (omega arith))
 
 loop-holds : tie.Need-loop-holds Inv-loop μ-loop
-loop-holds c = (omega arith, refl)
+loop-holds c = (omega arith, stray-start _ _ (c .if1 .left))
 
-shared-slice-read-bad : tie.Need-shared-slice-read-bad Inv-loop μ-loop
-shared-slice-read-bad c = search needs
+shared-slice-read-t : tie.Need-shared-slice-read-t Inv-loop μ-loop
+shared-slice-read-t c = search needs
 
 add-i : tie.Need-add-i Inv-loop μ-loop
 add-i c = search needs
@@ -29,15 +33,15 @@ loop-less c = search needs
 
 loop-again : tie.Need-loop-again Inv-loop μ-loop
 loop-again c =
-    let l = c .before .before .loop in
-    (search needs, sym (stray-step _ (l .i) _ (l .bad) (c .before .loop-test .taken)) ∙ l .inv .1)
+    let l = c .before .before .before .loop in
+    (search needs, stray-step _ (l .i) _ (l .most) _ (c .before .before .loop-test .taken) (⊎-elim (λ w. omega arith) (λ w. omega arith) (c .if2 .came)) ∙ l .inv .1)
 
-returns : tie.Need-returns Inv-loop μ-loop
-returns c =
+returns-2 : tie.Need-returns-2 Inv-loop μ-loop
+returns-2 c =
     let l = c .before .loop in
-    sym (stray-end _ (l .i) _ (l .bad) (c .loop-test .left)) ∙ l .inv .1
+    sym (stray-end _ (l .i) _ (l .most) (c .loop-test .left)) ∙ l .inv .1
 
 pub names-nobody-spec : {M : Type 1} → statement M
 names-nobody-spec =
     tie.close
-    (tie.spec Inv-loop μ-loop loop-holds shared-slice-read-bad add-i loop-less loop-again returns)
+    (tie.spec Inv-loop μ-loop returns loop-holds shared-slice-read-t add-i loop-less loop-again returns-2)

@@ -1,0 +1,28 @@
+-- Turns that pass.
+use Prim.Native.Nat.{ℕ, _≤_, _<_}
+use mathlib.Core.Bool.{Bool, false}
+use mathlib.Core.Path.{_≡_}
+use mathlib.Core.List.{List}
+use lib.ListN.{length, getD}
+
+-- a place in a list of turns, each of which names a worker
+pub record Ahead (turns : List ℕ) (from : ℕ) : Type 0 where
+  pub within : from ≤ length turns
+  pub short : length turns ≤ 65535
+  pub named : (i : ℕ) → i < length turns → getD turns i 0 < 8
+
+-- from one place to before another each turn is by a worker that cannot move
+pub record Passed (turns : List ℕ) (can : List Bool) (from to : ℕ) : Type 0 where
+  pub onward : from ≤ to
+  pub within : to ≤ length turns
+  pub idle : (i : ℕ) → from ≤ i → i < to → getD can (getD turns i 0) false ≡ false
+
+-- from one place to before another no turn names a worker outside these
+pub record Spans (turns : List ℕ) (from to least most : ℕ) : Type 0 where
+  pub low : (i : ℕ) → from ≤ i → i < to → least ≤ getD turns i 0
+  pub high : (i : ℕ) → from ≤ i → i < to → getD turns i 0 ≤ most
+  pub below : most < 8
+
+-- from one worker to before another none can move
+abbrev pub NoneMoves : List Bool → ℕ → ℕ → Type 0
+NoneMoves can from to = (w : ℕ) → from ≤ w → w < to → getD can w false ≡ false

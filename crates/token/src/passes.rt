@@ -1,0 +1,85 @@
+// Turns that pass, many at a time.
+ghost use mathlib.Core.Bool.{true};
+ghost use mathlib.Core.Path.{_≡_};
+ghost use Prim.Native.Nat.{_+_, _≤_, _<_};
+ghost use lib.ListN.{length};
+ghost use Rattle.token.specs.Passes.{Ahead, Passed, Spans, NoneMoves};
+
+// The least and the greatest worker that a block of turns names.
+pub struct Range {
+    pub least: u8,
+    pub most: u8,
+}
+
+// Turns looked at together.
+const BLOCK: usize = 64;
+
+// Turns looked at one by one before the first block.
+const NEAR: usize = 16;
+
+// All turns are looked at, without a branch, so that the loop becomes vector code.
+fn span(turns: &[u8], at: usize) -> Range
+    requires { ⌜ Ahead (now turns) at × (at + 64 ≤ length (now turns)) ⌝ }
+    ensures { λ s. ⌜ Spans (now (turns .entry)) at (at + 64) (s .least) (s .most) ⌝ }
+{
+    let mut least: u8 = 255;
+    let mut most: u8 = 0;
+    let mut k = 0;
+    while k < BLOCK {
+        let t = turns[at + k];
+        least = if t < least { t } else { least };
+        most = if most < t { t } else { most };
+        k += 1;
+    }
+    Range { least, most }
+}
+
+// Whether none of the workers from least to most can move.
+fn idle(can: &[bool; 8], least: u8, most: u8) -> bool
+    requires { ⌜ most < 8 ⌝ }
+    ensures { λ b. ⌜ (b ≡ true → NoneMoves (now (can .entry)) least (most + 1)) ⌝ }
+{
+    let mut w = least as usize;
+    let last = most as usize;
+    while w <= last {
+        if can[w] {
+            return false;
+        }
+        w += 1;
+    }
+    true
+}
+
+// Steps over whole blocks.
+fn blocks(turns: &[u8], from: usize, can: &[bool; 8]) -> usize
+    requires { ⌜ Ahead (now turns) from ⌝ }
+    ensures { λ r. ⌜ Passed (now (turns .entry)) (now (can .entry)) from r ⌝ }
+{
+    let mut i = from;
+    while i + BLOCK <= turns.len() {
+        let s = span(turns, i);
+        if !idle(can, s.least, s.most) {
+            return i;
+        }
+        i += BLOCK;
+    }
+    i
+}
+
+// The next turn that may move, or one before it. Blocks pay only where none of the nearest turns moves.
+pub fn pass_over(turns: &[u8], from: usize, can: &[bool; 8]) -> usize
+    requires { ⌜ Ahead (now turns) from ⌝ }
+    ensures { λ r. ⌜ Passed (now (turns .entry)) (now (can .entry)) from r ⌝ }
+{
+    if turns.len() < from + NEAR {
+        return from;
+    }
+    let mut k = 0;
+    while k < NEAR {
+        if can[turns[from + k] as usize] {
+            return from + k;
+        }
+        k += 1;
+    }
+    blocks(turns, from + NEAR, can)
+}
