@@ -14,6 +14,7 @@ use Rattle.protocol.specs.Rounds.{State, workerAt, member}
 use Rattle.protocol.specs.Turns.{allArrived, isFirst, can}
 use Rattle.protocol.proofs.Counting.{clash}
 use Rattle.protocol.proofs.Fence.{all-arrived}
+use Rattle.queue.proofs.Walk.{length-all}
 use Rattle.token.specs.Token.{raised}
 use Rattle.engine.specs.Shows.{absent}
 
@@ -122,8 +123,7 @@ mark-set m w u b l = go (ℕ-discrete u w)
 
 pub raised-length : (ws : List ℕ) (m : List Bool) → length (raised ws m) ≡ length m
 unfolding raised
-raised-length [] m = refl
-raised-length (w ∷ ws) m = raised-length ws (set m w true) ∙ length-set m w true
+raised-length ws m = length-all true ws m
 
 pub raised-at : (ws : List ℕ) (m : List Bool) (u : ℕ) → u < length m → getD (raised ws m) u false ≡ member u ws || getD m u false
 unfolding raised member

@@ -6,6 +6,7 @@ use plan::decode::Record;
 use rules::fates::settle_fates;
 use rules::lists::Lists;
 use rules::lists::moved;
+use rules::ruling::AT_BARRIER;
 use rules::ruling::Bytes;
 use rules::ruling::Ruling;
 use rules::ruling::rule;
@@ -34,7 +35,7 @@ fn decide(r: Record, h: u64, held: u64, sizes: &[u8; 8], lists: Lists, on: &[u64
 {
     let waiting = lists.waiting;
     let ruling = rule(r.op, r.number, held, sizes, waiting, on);
-    let key = 5 + 2 * (r.number as u64);
+    let key = AT_BARRIER + 2 * (r.number as u64);
     let after = moved(lists, ruling, h, on, key);
     Decision {
         ruling,

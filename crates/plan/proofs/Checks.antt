@@ -18,7 +18,7 @@ use Rattle.plan.specs.Stepping.{StepsSoFar, StepsRead}
 use Rattle.plan.specs.Skipping.{Laid}
 use Rattle.plan.specs.Checking.{refusesLength, refusesPlan, LaidOut}
 use Rattle.plan.specs.declared.barriers.Barriers.{Barriers}
-use Rattle.plan.specs.declared.steps.Steps.{Steps}
+use Rattle.plan.specs.declared.answer.Verdict.{Verdict}
 use Rattle.plan.specs.declared.decode.Decoded.the-variants.{Read, Unmarked}
 use Rattle.plan.proofs.Readings.{Body, verdict-step, workers-same, told, told-unmarked}
 
@@ -100,19 +100,19 @@ steps-so-far file count n r b ok w m =
     }
 
 -- all records read
-pub laid : (file sizes : List ℕ) (n start : ℕ) (r : Steps) → StepsRead file (length file / 7) sizes start r → verdictOf (r .verdict) ≡ protocol.accepted → Sized file
-    → recordAt file 0 .worker ≡ n → n ≤ 8 → Laid file (length file / 7) (r .firsts)
-laid file sizes n start r s ok z w m =
+pub laid : (file sizes : List ℕ) (n start : ℕ) (v : Verdict) (firsts : List ℕ) → StepsRead file (length file / 7) sizes start v firsts → verdictOf v ≡ protocol.accepted → Sized file
+    → recordAt file 0 .worker ≡ n → n ≤ 8 → Laid file (length file / 7) firsts
+laid file sizes n start v firsts s ok z w m =
     record {
       read = s .read ok;
       eight = let e = workers-same file (length file / 7) (z .some) in omega arith;
       right = s .right ok;
     }
 
-pub laid-out : (file sizes : List ℕ) (n start : ℕ) (r : Steps) → StepsRead file (length file / 7) sizes start r → verdictOf (r .verdict) ≡ protocol.accepted → Sized file
-    → n ≡ recordAt file 0 .worker → length sizes ≡ 8 → LaidOut file (record { workers = n; sizes = sizes; firsts = r .firsts })
+pub laid-out : (file sizes : List ℕ) (n start : ℕ) (v : Verdict) (firsts : List ℕ) → StepsRead file (length file / 7) sizes start v firsts → verdictOf v ≡ protocol.accepted → Sized file
+    → n ≡ recordAt file 0 .worker → length sizes ≡ 8 → LaidOut file (record { workers = n; sizes = sizes; firsts = firsts })
 unfolding records recordCount
-laid-out file sizes n start r s ok z w e =
+laid-out file sizes n start v firsts s ok z w e =
     record {
       workers = w ∙ sym (workers-same file (length file / 7) (z .some));
       eight = e;

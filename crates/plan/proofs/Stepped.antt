@@ -9,7 +9,7 @@ use native.Mathlib.Omega.{arith}
 use native.Mathlib.Numerals.{add-one}
 use native.Mathlib.Decide.{decLt}
 use lib.Dec.{leb, ltb, eqb}
-use lib.ListN.{length, getD, replicate}
+use lib.ListN.{length, getD}
 use borrow.Author.Tests.{lt-ltb, le-ltb, ltb-false, leb-false, eqb-true}
 use Rattle.protocol.specs.Format as format
 use Rattle.protocol.specs.Format.{Record, recordsFrom, rowIn, rowOf, isBarrier, isStep, workersIn, sizeIn, stepsIn, firstIn}
@@ -210,13 +210,14 @@ firsts-right file count n sizes opened firsts new k o w h = elim (decLt w opened
 ]
 
 -- no step yet
-pub kept-first : (file : List ℕ) (count n : ℕ) (sizes : List ℕ) (start : ℕ) → StepsSoFar file count n sizes start → Kept (before file start) n sizes 0 (replicate 9 0)
-kept-first file count n sizes start s =
+pub kept-first : (file : List ℕ) (count n : ℕ) (sizes : List ℕ) (start : ℕ) (firsts : List ℕ) → StepsSoFar file count n sizes start → length firsts ≡ 9
+    → Kept (before file start) n sizes 0 firsts
+kept-first file count n sizes start firsts s nine =
     record {
       read = s .read;
       workers = s .workers;
       opens = s .noStep;
-      nine = refl;
+      nine = nine;
       right = λ w h. absurd (omega arith);
       sizesRight = s .sizesRight;
     }

@@ -15,7 +15,7 @@ use Rattle.protocol.proofs.Prefix as prefix
 use Rattle.plan.specs.Answer.{verdictOf}
 use Rattle.plan.specs.Reading.{recordAt, before, verdictFrom}
 use Rattle.plan.specs.declared.decode.Record.{Record}
-use Rattle.plan.specs.declared.steps.Steps.{Steps}
+use Rattle.plan.specs.declared.answer.Verdict.{Verdict}
 use Rattle.plan.specs.declared.table.Row.{Row}
 
 abbrev pub outsideOf : Row → ℕ → ℕ → Bool
@@ -69,9 +69,9 @@ pub record StepsSoFar (file : List ℕ) (count n : ℕ) (sizes : List ℕ) (star
   pub noBarrier : start < count → format.isBarrier (recordAt file start) ≡ false
 
 -- the whole file, or the refusal
-pub record StepsRead (file : List ℕ) (count : ℕ) (sizes : List ℕ) (start : ℕ) (r : Steps) : Type 0 where
-  pub verdict : both (verdictOf (r .verdict)) (protocol.checkSkips 0 (before file count)) ≡ verdictFrom file count start
-  pub nine : length (r .firsts) ≡ 9
-  pub read : verdictOf (r .verdict) ≡ protocol.accepted → prefix.Read (before file count)
-  pub right : verdictOf (r .verdict) ≡ protocol.accepted → (w : ℕ) → w < 9 → getD (r .firsts) w 0 ≡ format.firstIn (before file count) w
-  pub sizesRight : verdictOf (r .verdict) ≡ protocol.accepted → (b : ℕ) → b < 8 → getD sizes b 0 ≡ format.sizeIn (before file count) b
+pub record StepsRead (file : List ℕ) (count : ℕ) (sizes : List ℕ) (start : ℕ) (v : Verdict) (firsts : List ℕ) : Type 0 where
+  pub verdict : both (verdictOf v) (protocol.checkSkips 0 (before file count)) ≡ verdictFrom file count start
+  pub nine : length firsts ≡ 9
+  pub read : verdictOf v ≡ protocol.accepted → prefix.Read (before file count)
+  pub right : verdictOf v ≡ protocol.accepted → (w : ℕ) → w < 9 → getD firsts w 0 ≡ format.firstIn (before file count) w
+  pub sizesRight : verdictOf v ≡ protocol.accepted → (b : ℕ) → b < 8 → getD sizes b 0 ≡ format.sizeIn (before file count) b

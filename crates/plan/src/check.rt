@@ -86,12 +86,18 @@ pub fn check(file: &[u8]) -> Checked
         return refused(f, i);
     }
     let sizes = barriers.sizes;
-    let steps = read_steps(file, count, first.worker, &sizes, barriers.next);
-    let verdict = steps.verdict;
+    let mut firsts = [0usize; 9];
+    let verdict = read_steps(
+        file,
+        count,
+        first.worker,
+        &sizes,
+        barriers.next,
+        &mut firsts,
+    );
     if let Verdict::Refused(f, i) = verdict {
         return refused(f, i);
     }
-    let firsts = steps.firsts;
     let verdict = check_skips(file, count, &firsts);
     let layout = Layout {
         workers: first.worker,

@@ -15,12 +15,6 @@ ghost use Rattle.protocol.specs.Format.{rowOf};
 ghost use Rattle.plan.specs.Answer.{ruleOf, limitsOf, RowsRight};
 ghost use Rattle.plan.specs.Stepping.{outsideOf, badWorker, readSteps, noStepRuling, operandRuling, laterRuling, StepsSoFar, Opened, StepsRead};
 
-// The index of each worker's first step; that of worker `n` is behind the last.
-pub struct Steps {
-    pub verdict: Verdict,
-    pub firsts: [usize; 9],
-}
-
 fn outside(row: Row, register: u8, number: u16) -> bool
     ensures { λ b. ⌜ b ≡ outsideOf row register number ⌝ }
 {
@@ -133,7 +127,8 @@ fn open_workers(firsts: &mut [usize; 9], opened: usize, worker: usize, i: usize)
     }
 }
 
-// Reads the records from `start` on, which are the steps, by the table.
+// Reads the records from `start` on, which are the steps, by the table, and notes where each worker's begin; from worker n on
+// that is behind the last.
 fn read_by_table(
     rows: [Row; 39],
     file: &[u8],
@@ -141,49 +136,49 @@ fn read_by_table(
     n: usize,
     sizes: &[u8; 8],
     start: usize,
-) -> Steps
+    firsts: &mut [usize; 9],
+) -> Verdict
     requires { ⌜ RowsRight rows ⌝ }
     requires { ⌜ 7 * count ≤ length (now file) ⌝ }
     requires { ⌜ StepsSoFar (now file) count n (now sizes) start ⌝ }
-    ensures { λ r. ⌜ StepsRead (now (file .entry)) count (now (sizes .entry)) start r ⌝ }
+    requires { ⌜ length (now firsts) ≡ 9 ⌝ }
+    ensures { λ v. ⌜ StepsRead (now (file .entry)) count (now (sizes .entry)) start v (now (firsts .exit)) ⌝ }
 {
-    let mut firsts = [0usize; 9];
     let mut opened = 0usize;
     let mut i = start;
     while i < count {
         let Decoded::Read(r) = decode(file, 7 * i) else {
-            return Steps {
-                verdict: Verdict::Refused(Refusal::BadMark, i),
-                firsts,
-            };
+            return Verdict::Refused(Refusal::BadMark, i);
         };
         let at = place(r.op);
         let row = rows[at];
-        let ruling = later_ruling(row, r, n, opened, sizes, &firsts, i);
+        let ruling = later_ruling(row, r, n, opened, sizes, firsts, i);
         if let Ruling::Refuses(f) = ruling {
-            return Steps {
-                verdict: Verdict::Refused(f, i),
-                firsts,
-            };
+            return Verdict::Refused(f, i);
         }
         let worker = r.worker as usize;
-        open_workers(&mut firsts, opened, worker, i);
+        open_workers(firsts, opened, worker, i);
         opened = worker + 1;
         i += 1;
     }
-    open_workers(&mut firsts, opened, 8, count);
-    Steps {
-        verdict: Verdict::Accepted,
-        firsts,
-    }
+    open_workers(firsts, opened, 8, count);
+    Verdict::Accepted
 }
 
 // Reads the records from `start` on, which are the steps.
-pub fn read_steps(file: &[u8], count: usize, n: u8, sizes: &[u8; 8], start: usize) -> Steps
+pub fn read_steps(
+    file: &[u8],
+    count: usize,
+    n: u8,
+    sizes: &[u8; 8],
+    start: usize,
+    firsts: &mut [usize; 9],
+) -> Verdict
     requires { ⌜ 7 * count ≤ length (now file) ⌝ }
     requires { ⌜ StepsSoFar (now file) count n (now sizes) start ⌝ }
-    ensures { λ r. ⌜ StepsRead (now (file .entry)) count (now (sizes .entry)) start r ⌝ }
+    requires { ⌜ length (now firsts) ≡ 9 ⌝ }
+    ensures { λ v. ⌜ StepsRead (now (file .entry)) count (now (sizes .entry)) start v (now (firsts .exit)) ⌝ }
 {
     let rows = ROWS;
-    read_by_table(rows, file, count, n as usize, sizes, start)
+    read_by_table(rows, file, count, n as usize, sizes, start, firsts)
 }

@@ -1,6 +1,6 @@
 -- The laws of the rules: each branch of the code as the definitions have it.
 -- Assumes nothing.
-use Prim.Native.Nat.{ℕ, _+_, _*_, _≤_}
+use Prim.Native.Nat.{ℕ, _+_, _≤_}
 use native.Mathlib.Nat.{eq-or-lt-of-le}
 use native.Mathlib.Omega.{arith}
 use mathlib.Core.Bool.{true, false}
@@ -14,13 +14,13 @@ use Rattle.protocol.specs.Turns.{noneLeft}
 use Rattle.queue.specs.declared.Queue.{Queue}
 use Rattle.queue.specs.List.{listOf, Good, Holds, Below}
 use Rattle.rules.specs.declared.ruling.Ruling.{Ruling}
-use Rattle.rules.specs.Codes.{syncOf}
+use Rattle.rules.specs.Codes.{conditionCode, barrierCode, syncOf}
 use Rattle.rules.specs.Rules.{found, Coded, Sound, Means, Ruled}
 
 -- a ruling that wakes nobody
 pub asleep : {held number : ℕ} {waiting : Queue} {on : List ℕ} {r : Ruling} → r .wakes ≡ false → Coded (r .goes) → r .held ≤ held + 1
     → Good (r .queued) → Below 8 (listOf (r .queued)) → length (listOf (r .queued)) ≤ length (listOf waiting)
-    → (r .joins ≡ true → listOf (r .queued) ≡ found on (listOf waiting) (5 + 2 * number)) → Sound held number waiting on r
+    → (r .joins ≡ true → listOf (r .queued) ≡ found on (listOf waiting) (barrierCode number)) → Sound held number waiting on r
 asleep w e h good below few all =
     record {
       coded = e;
@@ -65,7 +65,7 @@ module _ {op number held : ℕ} {sizes : List ℕ} {waiting : Queue} {on : List 
   unfolding syncOf ruleOf
   by-wait e m = record { same = λ plan queue met at fit. rw e (m .same); sound = m .sound }
 
-  pub by-signal : 35 ≤ op → op ≤ 36 → Means held number waiting on r (signalRule (found on (listOf waiting) (4 + 2 * number)) held) → Ruled op number held sizes waiting on r
+  pub by-signal : 35 ≤ op → op ≤ 36 → Means held number waiting on r (signalRule (found on (listOf waiting) (conditionCode number)) held) → Ruled op number held sizes waiting on r
   unfolding syncOf ruleOf
   by-signal low high m =
       record {
@@ -76,7 +76,7 @@ module _ {op number held : ℕ} {sizes : List ℕ} {waiting : Queue} {on : List 
         sound = m .sound;
       }
 
-  pub by-barrier : op ≡ 37 → Means held number waiting on r (barrierRule number (getD sizes number 0) (found on (listOf waiting) (5 + 2 * number)) held) → Ruled op number held sizes waiting on r
+  pub by-barrier : op ≡ 37 → Means held number waiting on r (barrierRule number (getD sizes number 0) (found on (listOf waiting) (barrierCode number)) held) → Ruled op number held sizes waiting on r
   unfolding syncOf ruleOf
   by-barrier e m = record { same = λ plan queue met at fit. rw (e, ← at e, fit e) (m .same); sound = m .sound }
 

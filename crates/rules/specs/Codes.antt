@@ -18,6 +18,13 @@ fateCode failed = 2
 fateCode (waiting (onCondition c)) = 4 + 2 * c
 fateCode (waiting (atBarrier b)) = 5 + 2 * b
 
+-- the codes of one who waits on a condition, and of one who waits at a barrier
+abbrev pub conditionCode : ℕ → ℕ
+conditionCode c = fateCode (waiting (onCondition c))
+
+abbrev pub barrierCode : ℕ → ℕ
+barrierCode b = fateCode (waiting (atBarrier b))
+
 unfoldable pub fateOf : ℕ → Fate
 fateOf k =
     cond (ltb k 3) (cond (eqb k 0) going (cond (eqb k 1) exited failed))

@@ -1,5 +1,5 @@
 -- What a ruling of the code stands for, and what `rule` takes and ensures.
-use Prim.Native.Nat.{ℕ, _+_, _*_, _≤_, _<_}
+use Prim.Native.Nat.{ℕ, _+_, _≤_, _<_}
 use mathlib.Core.Bool.{Bool, true, false, cond}
 use mathlib.Core.Path.{_≡_}
 use mathlib.Core.List.{List, []}
@@ -14,7 +14,7 @@ use Rattle.queue.specs.declared.Queue.{Queue}
 use Rattle.queue.specs.List.{listOf, Good, Below}
 use Rattle.rules.specs.declared.ruling.Goes.{Goes}
 use Rattle.rules.specs.declared.ruling.Ruling.{Ruling}
-use Rattle.rules.specs.Codes.{fateCode, bytesOf, goesOf, codeAfter, syncOf}
+use Rattle.rules.specs.Codes.{fateCode, conditionCode, barrierCode, bytesOf, goesOf, codeAfter, syncOf}
 
 -- whom a step wakes, of the queued workers
 abbrev pub wokenOf : Bool → List ℕ → List ℕ
@@ -50,7 +50,7 @@ pub record Sound (held number : ℕ) (waiting : Queue) (on : List ℕ) (r : Ruli
   pub good : Good (r .queued)
   pub below : Below 8 (listOf (r .queued))
   pub few : length (listOf (r .queued)) ≤ length (listOf waiting)
-  pub all : r .joins ≡ true → listOf (r .queued) ≡ found on (listOf waiting) (5 + 2 * number)
+  pub all : r .joins ≡ true → listOf (r .queued) ≡ found on (listOf waiting) (barrierCode number)
 
 -- a ruling of the code is that of the definitions
 pub record Means (held number : ℕ) (waiting : Queue) (on : List ℕ) (r : Ruling) (is : rounds.Ruling) : Type 0 where
@@ -76,8 +76,8 @@ pub record Asks (op number held : ℕ) (waiting : Queue) : Type 0 where
 pub record Ruled (op number held : ℕ) (sizes : List ℕ) (waiting : Queue) (on : List ℕ) (r : Ruling) : Type 0 where
   pub same :
       (plan : Plan) (queue : steps.Queue → List ℕ)
-      → (35 ≤ op → op ≤ 36 → found on (listOf waiting) (4 + 2 * number) ≡ queue (onCondition number))
-      → (op ≡ 37 → found on (listOf waiting) (5 + 2 * number) ≡ queue (atBarrier number))
+      → (35 ≤ op → op ≤ 36 → found on (listOf waiting) (conditionCode number) ≡ queue (onCondition number))
+      → (op ≡ 37 → found on (listOf waiting) (barrierCode number) ≡ queue (atBarrier number))
       → (op ≡ 37 → getD (plan .sizes) number 0 ≡ getD sizes number 0)
       → rulingOf r ≡ ruleOf plan queue held (syncOf op number)
   pub sound : Sound held number waiting on r

@@ -2,12 +2,17 @@
 use queue::Queue;
 ghost use mathlib.Core.List.{List};
 ghost use mathlib.Core.Path.{_≡_};
-ghost use Prim.Native.Nat.{ℕ, _+_, _*_, _≤_};
+ghost use Prim.Native.Nat.{ℕ, _≤_};
 ghost use Rattle.protocol.specs.Rounds.{failure, commitsAtZero, lockRule, unlockRule, waitRule, signalRule, barrierRule, exitRule};
 ghost use Rattle.queue.specs.List.{listOf, Good, Below};
 ghost use Rattle.queue.specs.declared.Queue.{Queue};
-ghost use Rattle.rules.specs.Codes.{bytesOf};
+ghost use Rattle.rules.specs.Codes.{conditionCode, barrierCode, bytesOf};
 ghost use Rattle.rules.specs.Rules.{found, AtZero, Met, Asks, Means, Ruled};
+
+// The code of the fate of a worker that waits is one of these and twice the number of what it waits on.
+pub const ON_CONDITION: u64 = 4;
+
+pub const AT_BARRIER: u64 = 5;
 
 // What becomes of the holder's copies.
 pub enum Bytes {
@@ -116,7 +121,7 @@ fn wait(condition: u64, count: u64) -> Ruling
     Ruling {
         bytes: Bytes::Committed,
         held: count,
-        goes: Goes::Leaves(4 + 2 * condition),
+        goes: Goes::Leaves(ON_CONDITION + 2 * condition),
         wakes: false,
         joins: false,
         queued: none,
@@ -127,10 +132,10 @@ fn wait(condition: u64, count: u64) -> Ruling
 // Signal and broadcast.
 fn signal(condition: u64, held: u64, waiting: Queue, on: &[u64; 8]) -> Ruling
     requires { ⌜ (condition ≤ 15) × Good waiting × Below 8 (listOf waiting) ⌝ }
-    ensures { λ r. ⌜ Means held condition waiting (now (on .entry)) r (signalRule (found (now (on .entry)) (listOf waiting) (4 + 2 * condition)) held) ⌝ }
+    ensures { λ r. ⌜ Means held condition waiting (now (on .entry)) r (signalRule (found (now (on .entry)) (listOf waiting) (conditionCode condition)) held) ⌝ }
 {
     let goes = gives_at_zero(held);
-    let queued = waiting.select(on, 4 + 2 * condition);
+    let queued = waiting.select(on, ON_CONDITION + 2 * condition);
     if queued.is_empty() {
         return Ruling {
             bytes: Bytes::Committed,
@@ -156,17 +161,17 @@ fn signal(condition: u64, held: u64, waiting: Queue, on: &[u64; 8]) -> Ruling
 // Those who wait at barrier b; nobody, where all who wait are too few for it.
 fn met(b: u64, size: u8, waiting: Queue, on: &[u64; 8]) -> Queue
     requires { ⌜ (b ≤ 15) × Good waiting × Below 8 (listOf waiting) ⌝ }
-    ensures { λ q. ⌜ Met (now (on .entry)) waiting (5 + 2 * b) size q ⌝ }
+    ensures { λ q. ⌜ Met (now (on .entry)) waiting (barrierCode b) size q ⌝ }
 {
     if waiting.count() + 1 < size as u64 {
         return Queue::empty();
     }
-    waiting.select(on, 5 + 2 * b)
+    waiting.select(on, AT_BARRIER + 2 * b)
 }
 
 fn barrier(b: u64, size: u8, held: u64, waiting: Queue, on: &[u64; 8]) -> Ruling
     requires { ⌜ (b ≤ 15) × Good waiting × Below 8 (listOf waiting) ⌝ }
-    ensures { λ r. ⌜ Means held b waiting (now (on .entry)) r (barrierRule b size (found (now (on .entry)) (listOf waiting) (5 + 2 * b)) held) ⌝ }
+    ensures { λ r. ⌜ Means held b waiting (now (on .entry)) r (barrierRule b size (found (now (on .entry)) (listOf waiting) (barrierCode b)) held) ⌝ }
 {
     if held != 0 {
         return failed(held);
@@ -176,7 +181,7 @@ fn barrier(b: u64, size: u8, held: u64, waiting: Queue, on: &[u64; 8]) -> Ruling
         return Ruling {
             bytes: Bytes::Committed,
             held,
-            goes: Goes::Leaves(5 + 2 * b),
+            goes: Goes::Leaves(AT_BARRIER + 2 * b),
             wakes: false,
             joins: false,
             queued,

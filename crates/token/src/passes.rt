@@ -15,7 +15,7 @@ pub struct Range {
 const BLOCK: usize = 64;
 
 // Turns looked at one by one before the first block.
-const NEAR: usize = 16;
+const NEAR: usize = 12;
 
 // All turns are looked at, without a branch, so that the loop becomes vector code.
 fn span(turns: &[u8], at: usize) -> Range

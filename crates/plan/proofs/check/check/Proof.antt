@@ -2,7 +2,7 @@ use borrow.Author.Needs.{needs}
 use Prim.Native.Nat.{_/_}
 use native.Mathlib.Omega.{arith}
 use mathlib.Core.Bool.{true, false}
-use mathlib.Core.Path.{_≡_, ap, _∙_, sym}
+use mathlib.Core.Path.{_≡_, refl, ap, _∙_, sym}
 use lib.ListN.{length}
 use Rattle.protocol.specs.Refusals as protocol
 use Rattle.protocol.specs.Calls.{both}
@@ -98,15 +98,15 @@ enum-told-2 c = search needs
 
 read-steps-requires : tie.Need-read-steps-requires
 read-steps-requires c κs =
-    let file = c .before .before .before .before .before .before .before .before .before .before .before .before .before .before .args .file .now in
-    let fine = sym (c .before .before .before .before .before .before .before .before .before .before .before .before .bad-length .ensures) ∙ c .before .before .before .before .before .before .before .before .before .before .before .if1 .left in
-    let e : decodedOf (recordAt file 0) ≡ Read (c .before .before .before .before .before .before .before .before .first .given .0 .0) = sym (c .before .before .before .before .before .before .before .before .before .before .decode .ensures) ∙ c .before .before .before .before .before .before .before .before .first .given .1 in
-    let good = sym (c .before .before .before .before .before .before .bad-plan .ensures) ∙ c .before .before .before .before .before .if2 .left in
-    let taken = plan-taken (c .before .before .before .before .before .before .before .before .first .given .0 .0) good in
-    let rest = plan-step file fine (c .before .before .before .before .before .before .before .before .first .given .0 .0) false e good in
-    let br = c .before .before .before .before .read-barriers .ensures in
+    let file = c .before .before .before .before .before .before .before .before .before .before .before .before .before .before .before .args .file .now in
+    let fine = sym (c .before .before .before .before .before .before .before .before .before .before .before .before .before .bad-length .ensures) ∙ c .before .before .before .before .before .before .before .before .before .before .before .before .if1 .left in
+    let e : decodedOf (recordAt file 0) ≡ Read (c .before .before .before .before .before .before .before .before .before .first .given .0 .0) = sym (c .before .before .before .before .before .before .before .before .before .before .before .decode .ensures) ∙ c .before .before .before .before .before .before .before .before .before .first .given .1 in
+    let good = sym (c .before .before .before .before .before .before .before .bad-plan .ensures) ∙ c .before .before .before .before .before .before .if2 .left in
+    let taken = plan-taken (c .before .before .before .before .before .before .before .before .before .first .given .0 .0) good in
+    let rest = plan-step file fine (c .before .before .before .before .before .before .before .before .before .first .given .0 .0) false e good in
+    let br = c .before .before .before .before .before .read-barriers .ensures in
     let s = sized file fine in
-    (omega arith, steps-so-far file _ _ (c .before .before .before .before .read-barriers .result) br (ap verdictOf (c .before .before .enum-told2 .given .1)) (ap (λ (r : Body). r .worker) (sym (told (recordAt file 0) _ e .1))) (taken .most))
+    (omega arith, (steps-so-far file _ _ (c .before .before .before .before .before .read-barriers .result) br (ap verdictOf (c .before .before .before .enum-told2 .given .1)) (ap (λ (r : Body). r .worker) (sym (told (recordAt file 0) _ e .1))) (taken .most), refl))
 
 enum-known-verdict-2 : tie.Need-enum-known-verdict-2
 enum-known-verdict-2 c = search needs
@@ -116,13 +116,13 @@ refused-requires-5 c κs = search needs
 
 returns-5 : tie.Need-returns-5
 returns-5 c =
-    let file = c .before .before .before .before .before .before .before .before .before .before .before .before .before .before .before .before .before .before .before .args .file .now in
-    let fine = sym (c .before .before .before .before .before .before .before .before .before .before .before .before .before .before .before .before .before .bad-length .ensures) ∙ c .before .before .before .before .before .before .before .before .before .before .before .before .before .before .before .before .if1 .left in
-    let e : decodedOf (recordAt file 0) ≡ Read (c .before .before .before .before .before .before .before .before .before .before .before .before .before .first .given .0 .0) = sym (c .before .before .before .before .before .before .before .before .before .before .before .before .before .before .before .decode .ensures) ∙ c .before .before .before .before .before .before .before .before .before .before .before .before .before .first .given .1 in
-    let good = sym (c .before .before .before .before .before .before .before .before .before .before .before .bad-plan .ensures) ∙ c .before .before .before .before .before .before .before .before .before .before .if2 .left in
-    let taken = plan-taken (c .before .before .before .before .before .before .before .before .before .before .before .before .before .first .given .0 .0) good in
-    let rest = plan-step file fine (c .before .before .before .before .before .before .before .before .before .before .before .before .before .first .given .0 .0) false e good in
-    let barriers = ap (λ (v : Verdict). both (verdictOf v) (verdictFrom file (length file / 7) (c .before .before .before .before .before .before .before .before .before .read-barriers .result .next))) (sym (c .before .before .before .before .before .before .before .enum-told2 .given .1)) ∙ c .before .before .before .before .before .before .before .before .before .read-barriers .ensures .verdict in
+    let file = c .before .before .before .before .before .before .before .before .before .before .before .before .before .before .before .before .before .before .before .before .args .file .now in
+    let fine = sym (c .before .before .before .before .before .before .before .before .before .before .before .before .before .before .before .before .before .before .bad-length .ensures) ∙ c .before .before .before .before .before .before .before .before .before .before .before .before .before .before .before .before .before .if1 .left in
+    let e : decodedOf (recordAt file 0) ≡ Read (c .before .before .before .before .before .before .before .before .before .before .before .before .before .before .first .given .0 .0) = sym (c .before .before .before .before .before .before .before .before .before .before .before .before .before .before .before .before .decode .ensures) ∙ c .before .before .before .before .before .before .before .before .before .before .before .before .before .before .first .given .1 in
+    let good = sym (c .before .before .before .before .before .before .before .before .before .before .before .before .bad-plan .ensures) ∙ c .before .before .before .before .before .before .before .before .before .before .before .if2 .left in
+    let taken = plan-taken (c .before .before .before .before .before .before .before .before .before .before .before .before .before .before .first .given .0 .0) good in
+    let rest = plan-step file fine (c .before .before .before .before .before .before .before .before .before .before .before .before .before .before .first .given .0 .0) false e good in
+    let barriers = ap (λ (v : Verdict). both (verdictOf v) (verdictFrom file (length file / 7) (c .before .before .before .before .before .before .before .before .before .before .read-barriers .result .next))) (sym (c .before .before .before .before .before .before .before .before .enum-told2 .given .1)) ∙ c .before .before .before .before .before .before .before .before .before .before .read-barriers .ensures .verdict in
     let steps = c .before .before .before .before .read-steps .ensures in
     let bad = rest ∙ (sym barriers ∙ (sym (steps .verdict) ∙ ap (λ (v : Verdict). both (verdictOf v) (protocol.checkSkips 0 (before file (length file / 7)))) (c .before .before .verdict2 .given .1))) in
     record { verdict = ap verdictOf (c .refused5 .ensures) ∙ sym bad; layout = λ q. not-refused _ _ (ap verdictOf (sym (c .refused5 .ensures)) ∙ q) }
@@ -139,9 +139,9 @@ check-skips-requires c κs =
     let taken = plan-taken (c .before .before .before .before .before .before .before .before .before .before .before .before .before .first .given .0 .0) good in
     let rest = plan-step file fine (c .before .before .before .before .before .before .before .before .before .before .before .before .before .first .given .0 .0) false e good in
     let s = sized file fine in
-    let steps = c .before .before .before .before .read-steps .ensures in
-    let ok = ap verdictOf (c .before .before .enum-told3 .given .1) in
-    (omega arith, (omega arith, laid file _ _ _ _ steps ok s (ap (λ (r : Body). r .worker) (sym (told (recordAt file 0) _ e .1))) (taken .most)))
+    let steps = c .before .before .before .read-steps .ensures in
+    let ok = ap verdictOf (c .before .enum-told3 .given .1) in
+    (omega arith, (omega arith, laid file _ _ _ _ _ steps ok s (ap (λ (r : Body). r .worker) (sym (told (recordAt file 0) _ e .1))) (taken .most)))
 
 returns-6 : tie.Need-returns-6
 returns-6 c =
@@ -152,12 +152,12 @@ returns-6 c =
     let taken = plan-taken (c .before .before .before .before .before .before .before .before .before .before .before .before .before .before .first .given .0 .0) good in
     let rest = plan-step file fine (c .before .before .before .before .before .before .before .before .before .before .before .before .before .before .first .given .0 .0) false e good in
     let barriers = ap (λ (v : Verdict). both (verdictOf v) (verdictFrom file (length file / 7) (c .before .before .before .before .before .before .before .before .before .before .read-barriers .result .next))) (sym (c .before .before .before .before .before .before .before .before .enum-told2 .given .1)) ∙ c .before .before .before .before .before .before .before .before .before .before .read-barriers .ensures .verdict in
-    let steps = c .before .before .before .before .before .read-steps .ensures in
-    let ok = ap verdictOf (c .before .before .before .enum-told3 .given .1) in
+    let steps = c .before .before .before .before .read-steps .ensures in
+    let ok = ap verdictOf (c .before .before .enum-told3 .given .1) in
     let all = rest ∙ (sym barriers ∙ (sym (steps .verdict) ∙ ap (λ (v : protocol.Verdict). both v (protocol.checkSkips 0 (before file (length file / 7)))) ok)) in
     record {
       verdict = c .check-skips .ensures ∙ sym all;
-      layout = λ q. laid-out file _ _ _ _ steps ok (sized file fine) (ap (λ (r : Body). r .worker) (told (recordAt file 0) _ e .1)) (c .before .before .before .before .before .before .before .before .before .before .read-barriers .ensures .sizes .eight);
+      layout = λ q. laid-out file _ _ _ _ _ steps ok (sized file fine) (ap (λ (r : Body). r .worker) (told (recordAt file 0) _ e .1)) (c .before .before .before .before .before .before .before .before .before .before .read-barriers .ensures .sizes .eight);
     }
 
 pub check-spec : {M : Type 1} → statement M

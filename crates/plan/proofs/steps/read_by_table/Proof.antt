@@ -27,8 +27,8 @@ abbrev μ-loop : tie.MeasureT-loop
 
 loop-holds : tie.Need-loop-holds Inv-loop μ-loop
 loop-holds c =
-    let so = c .before .pre .1 .1 in
-    (omega arith, so .most, omega arith, λ z. refl, kept-first (c .before .args .file .now) (c .before .args .count) (c .before .args .n) (c .before .args .sizes .now) (c .before .args .start) so, refl)
+    let so = c .before .pre .1 .1 .0 in
+    (omega arith, so .most, omega arith, λ z. refl, kept-first (c .before .args .file .now) (c .before .args .count) (c .before .args .n) (c .before .args .sizes .now) (c .before .args .start) (c .before .args .firsts .now) so (c .before .pre .1 .1 .1), refl)
 
 mul-decode : tie.Need-mul-decode Inv-loop μ-loop
 mul-decode c = search needs
@@ -45,7 +45,7 @@ enum-told c = search needs
 returns : tie.Need-returns Inv-loop μ-loop
 returns c =
     let a = c .before .before .before .before .before .before .args in
-    let so = c .before .before .before .before .before .before .pre .1 .1 in
+    let so = c .before .before .before .before .before .before .pre .1 .1 .0 in
     let file = a .file .now in
     let i = c .before .before .before .before .loop .i in
     let inv = c .before .before .before .before .loop .inv in
@@ -72,7 +72,7 @@ later-ruling-requires : tie.Need-later-ruling-requires Inv-loop μ-loop
 later-ruling-requires c κs =
     let a = c .before .before .before .before .before .before .before .before .before .before .args in
     let pre = c .before .before .before .before .before .before .before .before .before .before .pre in
-    let so = pre .1 .1 in
+    let so = pre .1 .1 .0 in
     let i = c .before .before .before .before .before .before .before .before .loop .i in
     let inv = c .before .before .before .before .before .before .before .before .loop .inv in
     let row = ap (λ (k : ℕ). getD {A = Row} (a .t1) k (0, 0, 0)) (c .before .before .place .ensures .0) ∙ pre .0 (c .before .before .before .before .r .given .0 .0 .op) (omega arith) in
@@ -94,7 +94,7 @@ module _ (c : tie.After-later-ruling Inv-loop μ-loop) where
 
   one-step : OneStep (start .args .file .now) (start .args .count) (start .args .n) (start .args .sizes .now) (at .loop .opened) (at .loop .firsts) (at .loop .i) body
   one-step =
-      let so = start .pre .1 .1 in
+      let so = start .pre .1 .1 .0 in
       let inv = at .loop .inv in
       let most = c .before .before .before .before .before .before .before .before .loop-test .taken in
       record {
@@ -165,7 +165,7 @@ open-workers-requires-2 c κs = search needs
 returns-3 : tie.Need-returns-3 Inv-loop μ-loop
 returns-3 c =
     let a = c .before .before .before .before .before .args in
-    let so = c .before .before .before .before .before .pre .1 .1 in
+    let so = c .before .before .before .before .before .pre .1 .1 .0 in
     let file = a .file .now in
     let i = c .before .before .before .loop .i in
     let inv = c .before .before .before .loop .inv in

@@ -4,7 +4,7 @@ use Rattle.plan.proofs.steps.read_steps.Statement.{statement}
 use Rattle.plan.proofs.steps.read_steps.Tie as tie
 
 read-by-table-requires : tie.Need-read-by-table-requires
-read-by-table-requires c κs = (limits-right, c .before .pre)
+read-by-table-requires c κs = (limits-right, c .before .before .pre)
 
 returns : tie.Need-returns
 returns c = search needs

@@ -1,11 +1,11 @@
 -- `signal` meets its contract. Assumes nothing.
 use borrow.Author.Needs.{needs}
 use native.Mathlib.Omega.{arith}
-use Prim.Native.Nat.{_+_, _*_}
 use mathlib.Core.Path.{_≡_, refl, sym, _∙_}
 use denote.Ref.{now}
 use Rattle.queue.specs.List.{listOf}
 use Rattle.queue.proofs.Laws.{some-in, below-first}
+use Rattle.rules.specs.Codes.{conditionCode}
 use Rattle.rules.specs.Rules.{found}
 use Rattle.rules.proofs.Moving.{length-keep, below-keep}
 use Rattle.rules.proofs.Rulings.{asleep, wakes-none, wakes-first}
@@ -28,7 +28,7 @@ is-empty-requires : tie.Need-is-empty-requires
 is-empty-requires c κs = search needs
 
 -- the queued are those who wait on the condition
-asked : (c : tie.After-select) → listOf (c .select .result) ≡ found (now (c .before .before .args .on)) (listOf (c .before .before .args .waiting)) (4 + 2 * c .before .before .args .condition)
+asked : (c : tie.After-select) → listOf (c .select .result) ≡ found (now (c .before .before .args .on)) (listOf (c .before .before .args .waiting)) (conditionCode (c .before .before .args .condition))
 asked c = c .select .ensures .list
 
 returns : tie.Need-returns

@@ -9,10 +9,10 @@ use Rattle.token.proofs.passes.pass_over.Statement.{statement}
 use Rattle.token.proofs.passes.pass_over.Tie as tie
 
 abbrev Inv-loop : tie.InvT-loop
-Inv-loop turns from can k₀ k = (k ≤ 16) × Passed turns can from (from + k)
+Inv-loop turns from can k₀ k = (k ≤ 12) × Passed turns can from (from + k)
 
 abbrev μ-loop : tie.MeasureT-loop
-μ-loop turns from can k₀ k = 16 - k
+μ-loop turns from can k₀ k = 12 - k
 
 add-if1 : tie.Need-add-if1 Inv-loop μ-loop
 add-if1 c = search needs
@@ -65,7 +65,7 @@ blocks-requires c κs = ahead-on (c .before .before .before .before .pre) (c .be
 returns-3 : tie.Need-returns-3 Inv-loop μ-loop
 returns-3 c =
     let l = c .before .before .loop in
-    let all : l .k ≡ 16 = omega arith in
+    let all : l .k ≡ 12 = omega arith in
     passed-join (rw all at (l .inv .1)) (c .blocks2 .ensures)
 
 pub pass-over-spec : {M : Type 1} → statement M
