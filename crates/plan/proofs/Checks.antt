@@ -16,11 +16,14 @@ use Rattle.plan.specs.Answer.{decodedOf, verdictOf}
 use Rattle.plan.specs.Reading.{recordAt, verdictFrom, BarriersRead}
 use Rattle.plan.specs.Stepping.{StepsSoFar, StepsRead}
 use Rattle.plan.specs.Skipping.{Laid}
-use Rattle.plan.specs.Checking.{refusesLength, refusesPlan, LaidOut}
+use Rattle.plan.specs.Checking.{refusesLength, refusesPlan, LaidOut, CheckedAs}
 use Rattle.plan.specs.declared.barriers.Barriers.{Barriers}
+use Rattle.plan.specs.declared.answer.Refusal.{Refusal}
 use Rattle.plan.specs.declared.answer.Verdict.{Verdict}
+use Rattle.plan.specs.declared.answer.Verdict.the-variants.{Refused}
+use Rattle.plan.specs.declared.check.Checked.{Checked}
 use Rattle.plan.specs.declared.decode.Decoded.the-variants.{Read, Unmarked}
-use Rattle.plan.proofs.Readings.{Body, verdict-step, workers-same, told, told-unmarked}
+use Rattle.plan.proofs.Readings.{Body, verdict-step, workers-same, told, told-unmarked, not-refused}
 
 pub too-short : (file : List ℕ) → refusesLength (length file) ≡ true → protocol.check file ≡ protocol.refused protocol.badLength 0
 unfolding protocol.check lengthRule
@@ -120,3 +123,7 @@ laid-out file sizes n start v firsts s ok z w e =
       nine = s .nine;
       firsts = s .right ok;
     }
+
+-- a refusal is the verdict, and leaves no layout to speak of
+pub turned-down : {file : List ℕ} {r : Checked} {f : Refusal} {i : ℕ} → r .verdict ≡ Refused f i → protocol.check file ≡ verdictOf (Refused f i) → CheckedAs file r
+turned-down e bad = record { verdict = ap verdictOf e ∙ sym bad; layout = λ q. not-refused _ _ (ap verdictOf (sym e) ∙ q) }

@@ -1,9 +1,9 @@
 -- `play_own`: turns that pass or make an own step.
 use borrow.Author.Needs.{needs}
 use native.Mathlib.Omega.{arith}
-use Prim.Native.Nat.{_-_}
+use Prim.Native.Nat.{_-_, _<_}
 use mathlib.Core.Path.{_∙_, sym}
-use lib.ListN.{length}
+use lib.ListN.{length, getD}
 use Rattle.engine.proofs.Playing.{turn-small}
 use Rattle.engine.proofs.Stepping.{small, bytes-right, marks-right, fetch-fits, own-fits}
 use Rattle.engine.proofs.OwnTurns.{SoFar, none-yet, moves-small, passes, here, moves-on}
@@ -18,6 +18,10 @@ abbrev μ-loop : tie.MeasureT-loop
 μ-loop file firsts turns from made can places₀ held registers₀ copied₀ memory work₀ i₀ moves₀ places registers copied work i moves =
     length turns - i
 
+-- a turn names one of eight workers
+named : (c : tie.After-shared-slice-known4 Inv-loop μ-loop) → getD (c .before .before .before .before .before .before .before .args .turns .now) (c .before .before .loop .i) 0 < 8
+named c = turn-small (c .before .before .before .before .before .before .before .pre .playing) _ (c .before .loop-test .taken)
+
 loop-holds : tie.Need-loop-holds Inv-loop μ-loop
 loop-holds c = none-yet (c .before .before .before .before .pre)
 
@@ -25,31 +29,31 @@ shared-slice-read-w : tie.Need-shared-slice-read-w Inv-loop μ-loop
 shared-slice-read-w c = search needs
 
 cast-w : tie.Need-cast-w Inv-loop μ-loop
-cast-w c = omega (arith, turn-small (c .before .before .before .before .before .before .before .pre .playing) _ (c .before .loop-test .taken))
+cast-w c = omega (arith, named c)
 
 element-copy-out-if1 : tie.Need-element-copy-out-if1 Inv-loop μ-loop
-element-copy-out-if1 c = turn-small (c .before .before .before .before .before .before .before .pre .playing) _ (c .before .loop-test .taken)
+element-copy-out-if1 c = named c
 
 mul-place : tie.Need-mul-place Inv-loop μ-loop
-mul-place c = omega (arith, turn-small (c .before .before .before .before .before .before .before .before .before .pre .playing) _ (c .before .before .before .loop-test .taken))
+mul-place c = omega (arith, named (c .before .before))
 
 element-copy-out-place : tie.Need-element-copy-out-place Inv-loop μ-loop
-element-copy-out-place c = omega (arith, turn-small (c .before .before .before .before .before .before .before .before .before .pre .playing) _ (c .before .before .before .loop-test .taken))
+element-copy-out-place c = omega (arith, named (c .before .before))
 
 mul-fetch : tie.Need-mul-fetch Inv-loop μ-loop
-mul-fetch c = omega (arith, turn-small (c .before .before .before .before .before .before .before .before .before .before .pre .playing) _ (c .before .before .before .before .loop-test .taken))
+mul-fetch c = omega (arith, named (c .before .before .before))
 
 element-copy-out-fetch : tie.Need-element-copy-out-fetch Inv-loop μ-loop
-element-copy-out-fetch c = omega (arith, turn-small (c .before .before .before .before .before .before .before .before .before .before .pre .playing) _ (c .before .before .before .before .loop-test .taken))
+element-copy-out-fetch c = omega (arith, named (c .before .before .before))
 
 add-fetch : tie.Need-add-fetch Inv-loop μ-loop
-add-fetch c = omega (arith, turn-small (c .before .before .before .before .before .before .before .before .before .before .before .pre .playing) _ (c .before .before .before .before .before .loop-test .taken))
+add-fetch c = omega (arith, named (c .before .before .before .before))
 
 mul-fetch-2 : tie.Need-mul-fetch-2 Inv-loop μ-loop
-mul-fetch-2 c = omega (arith, turn-small (c .before .before .before .before .before .before .before .before .before .before .before .pre .playing) _ (c .before .before .before .before .before .loop-test .taken))
+mul-fetch-2 c = omega (arith, named (c .before .before .before .before))
 
 element-copy-out-fetch-2 : tie.Need-element-copy-out-fetch-2 Inv-loop μ-loop
-element-copy-out-fetch-2 c = omega (arith, turn-small (c .before .before .before .before .before .before .before .before .before .before .before .pre .playing) _ (c .before .before .before .before .before .loop-test .taken))
+element-copy-out-fetch-2 c = omega (arith, named (c .before .before .before .before))
 
 fetch-requires : tie.Need-fetch-requires Inv-loop μ-loop
 fetch-requires c κs = fetch-fits (here (c .before .before .before .before .before .before .before .loop .inv) (c .before .before .before .before .before .before .loop-test .taken) (c .before .before .before .if1 .taken) (c .before .before .before .before .before .before .before .before .before .before .before .before .pre))
@@ -69,16 +73,16 @@ returns c =
     }
 
 mul-t27 : tie.Need-mul-t27 Inv-loop μ-loop
-mul-t27 c = omega (arith, turn-small (c .before .before .before .before .before .before .before .before .before .before .before .before .before .before .before .pre .playing) _ (c .before .before .before .before .before .before .before .before .before .loop-test .taken))
+mul-t27 c = omega (arith, named (c .before .before .before .before .before .before .before .before))
 
 element-copy-out-t41 : tie.Need-element-copy-out-t41 Inv-loop μ-loop
-element-copy-out-t41 c = omega (arith, turn-small (c .before .before .before .before .before .before .before .before .before .before .before .before .before .before .before .pre .playing) _ (c .before .before .before .before .before .before .before .before .before .loop-test .taken))
+element-copy-out-t41 c = omega (arith, named (c .before .before .before .before .before .before .before .before))
 
 mul-t30 : tie.Need-mul-t30 Inv-loop μ-loop
-mul-t30 c = omega (arith, turn-small (c .before .before .before .before .before .before .before .before .before .before .before .before .before .before .before .before .pre .playing) _ (c .before .before .before .before .before .before .before .before .before .before .loop-test .taken))
+mul-t30 c = omega (arith, named (c .before .before .before .before .before .before .before .before .before))
 
 element-copy-out-t44 : tie.Need-element-copy-out-t44 Inv-loop μ-loop
-element-copy-out-t44 c = omega (arith, turn-small (c .before .before .before .before .before .before .before .before .before .before .before .before .before .before .before .before .pre .playing) _ (c .before .before .before .before .before .before .before .before .before .before .loop-test .taken))
+element-copy-out-t44 c = omega (arith, named (c .before .before .before .before .before .before .before .before .before))
 
 own-move-requires : tie.Need-own-move-requires Inv-loop μ-loop
 own-move-requires c κs =
@@ -86,16 +90,16 @@ own-move-requires c κs =
     (bytes-right h, marks-right h, small h, own-fits h (c .before .before .before .before .before .before .fetch .ensures) (omega (arith, c .before .before .before .before .if2 .left)))
 
 mul-places : tie.Need-mul-places Inv-loop μ-loop
-mul-places c = omega (arith, turn-small (c .before .before .before .before .before .before .before .before .before .before .before .before .before .before .before .before .before .before .before .before .before .before .pre .playing) _ (c .before .before .before .before .before .before .before .before .before .before .before .before .before .before .before .before .loop-test .taken))
+mul-places c = omega (arith, named (c .before .before .before .before .before .before .before .before .before .before .before .before .before .before .before))
 
 element-write-places : tie.Need-element-write-places Inv-loop μ-loop
-element-write-places c = omega (arith, turn-small (c .before .before .before .before .before .before .before .before .before .before .before .before .before .before .before .before .before .before .before .before .before .before .pre .playing) _ (c .before .before .before .before .before .before .before .before .before .before .before .before .before .before .before .before .loop-test .taken))
+element-write-places c = omega (arith, named (c .before .before .before .before .before .before .before .before .before .before .before .before .before .before .before))
 
 mul-registers : tie.Need-mul-registers Inv-loop μ-loop
-mul-registers c = omega (arith, turn-small (c .before .before .before .before .before .before .before .before .before .before .before .before .before .before .before .before .before .before .before .before .before .before .pre .playing) _ (c .before .before .before .before .before .before .before .before .before .before .before .before .before .before .before .before .loop-test .taken))
+mul-registers c = omega (arith, named (c .before .before .before .before .before .before .before .before .before .before .before .before .before .before .before))
 
 element-write-registers : tie.Need-element-write-registers Inv-loop μ-loop
-element-write-registers c = omega (arith, turn-small (c .before .before .before .before .before .before .before .before .before .before .before .before .before .before .before .before .before .before .before .before .before .before .pre .playing) _ (c .before .before .before .before .before .before .before .before .before .before .before .before .before .before .before .before .loop-test .taken))
+element-write-registers c = omega (arith, named (c .before .before .before .before .before .before .before .before .before .before .before .before .before .before .before))
 
 add-moves : tie.Need-add-moves Inv-loop μ-loop
 add-moves c = omega (arith, moves-small (c .before .before .before .before .before .before .before .before .before .before .before .before .before .before .before .before .before .loop .inv) (c .before .before .before .before .before .before .before .before .before .before .before .before .before .before .before .before .before .before .before .before .before .before .pre))

@@ -1,17 +1,20 @@
+-- `check`: the rules in the paper's order, each part of the file by the function that reads it.
 use borrow.Author.Needs.{needs}
-use Prim.Native.Nat.{_/_}
+use Prim.Native.Nat.{ℕ, _/_}
 use native.Mathlib.Omega.{arith}
-use mathlib.Core.Bool.{true, false}
+use mathlib.Core.Bool.{Bool, false}
 use mathlib.Core.Path.{_≡_, refl, ap, _∙_, sym}
+use mathlib.Core.List.{List}
 use lib.ListN.{length}
 use Rattle.protocol.specs.Refusals as protocol
 use Rattle.protocol.specs.Calls.{both}
 use Rattle.plan.specs.Answer.{decodedOf, verdictOf}
+use Rattle.plan.specs.Checking.{refusesLength}
 use Rattle.plan.specs.Reading.{recordAt, before, verdictFrom}
 use Rattle.plan.specs.declared.answer.Verdict.{Verdict}
 use Rattle.plan.specs.declared.decode.Decoded.the-variants.{Read}
-use Rattle.plan.proofs.Readings.{Body, told, not-refused}
-use Rattle.plan.proofs.Checks.{too-short, sized, unmarked-first, plan-step, plan-taken, steps-so-far, laid, laid-out}
+use Rattle.plan.proofs.Readings.{Body, told}
+use Rattle.plan.proofs.Checks.{Sized, too-short, sized, unmarked-first, plan-step, PlanTaken, plan-taken, steps-so-far, laid, laid-out, turned-down}
 use Rattle.plan.proofs.check.check.Statement.{statement}
 use Rattle.plan.proofs.check.check.Tie as tie
 
@@ -22,17 +25,24 @@ refused-requires : tie.Need-refused-requires
 refused-requires c κs = search needs
 
 returns : tie.Need-returns
-returns c =
-    let file = c .before .before .before .before .args .file .now in
-    let bad = too-short file (sym (c .before .before .bad-length .ensures) ∙ c .before .if1 .taken) in
-    record { verdict = ap verdictOf (c .refused .ensures) ∙ sym bad; layout = λ q. not-refused _ _ (ap verdictOf (sym (c .refused .ensures)) ∙ q) }
+returns c = turned-down (c .refused .ensures) (too-short _ (sym (c .before .before .bad-length .ensures) ∙ c .before .if1 .taken))
+
+-- a file of a length that is taken
+module _ (c : tie.Else1) where
+  abbrev file : List ℕ
+  file = c .before .before .before .args .file .now
+
+  abbrev count : ℕ
+  count = length file / 7
+
+  fine : refusesLength (length file) ≡ false
+  fine = sym (c .before .bad-length .ensures) ∙ c .if1 .left
+
+  size : Sized file
+  size = sized file fine
 
 decode-requires : tie.Need-decode-requires
-decode-requires c κs =
-    let file = c .before .before .before .args .file .now in
-    let fine = sym (c .before .bad-length .ensures) ∙ c .if1 .left in
-    let s = sized file fine in
-    omega arith
+decode-requires c κs = let s = size c in omega arith
 
 enum-known-first : tie.Need-enum-known-first
 enum-known-first c = search needs
@@ -44,120 +54,135 @@ refused-requires-2 : tie.Need-refused-requires-2
 refused-requires-2 c κs = search needs
 
 returns-2 : tie.Need-returns-2
-returns-2 c =
-    let file = c .before .before .before .before .before .before .before .args .file .now in
-    let fine = sym (c .before .before .before .before .before .bad-length .ensures) ∙ c .before .before .before .before .if1 .left in
-    let bad = unmarked-first file fine (sym (c .before .before .before .decode .ensures) ∙ c .before .enum-told .given .1) in
-    record { verdict = ap verdictOf (c .refused2 .ensures) ∙ sym bad; layout = λ q. not-refused _ _ (ap verdictOf (sym (c .refused2 .ensures)) ∙ q) }
+returns-2 c = turned-down (c .refused2 .ensures) (unmarked-first _ (fine (c .before .before .before .before)) (sym (c .before .before .before .decode .ensures) ∙ c .before .enum-told .given .1))
 
 bad-plan-requires : tie.Need-bad-plan-requires
 bad-plan-requires c κs = search needs
+
+-- its first record, and the test of it
+module _ (c : tie.After-bad-plan) where
+  abbrev sizedAt : tie.Else1
+  sizedAt = c .before .before .before .before .before
+
+  abbrev first : Body
+  first = c .before .before .first .given .0 .0
+
+  first-read : decodedOf (recordAt (file sizedAt) 0) ≡ Read first
+  first-read = sym (c .before .before .before .before .decode .ensures) ∙ c .before .before .first .given .1
+
+  same-worker : first .worker ≡ recordAt (file sizedAt) 0 .worker
+  same-worker = ap (λ (b : Body). b .worker) (told (recordAt (file sizedAt) 0) first first-read .1)
+
+  by-plan : (t : Bool) → c .bad-plan .result ≡ t
+      → protocol.check (file sizedAt) ≡ protocol.ruled (protocol.refuseIf t protocol.badPlan protocol.holds) 0 (verdictFrom (file sizedAt) (count sizedAt) 1)
+  by-plan t e = plan-step (file sizedAt) (fine sizedAt) first t first-read (sym (c .bad-plan .ensures) ∙ e)
 
 refused-requires-3 : tie.Need-refused-requires-3
 refused-requires-3 c κs = search needs
 
 returns-3 : tie.Need-returns-3
-returns-3 c =
-    let file = c .before .before .before .before .before .before .before .before .before .before .args .file .now in
-    let fine = sym (c .before .before .before .before .before .before .before .before .bad-length .ensures) ∙ c .before .before .before .before .before .before .before .if1 .left in
-    let e : decodedOf (recordAt file 0) ≡ Read (c .before .before .before .before .first .given .0 .0) = sym (c .before .before .before .before .before .before .decode .ensures) ∙ c .before .before .before .before .first .given .1 in
-    let bad = plan-step file fine (c .before .before .before .before .first .given .0 .0) true e (sym (c .before .before .bad-plan .ensures) ∙ c .before .if2 .taken) in
-    record { verdict = ap verdictOf (c .refused3 .ensures) ∙ sym bad; layout = λ q. not-refused _ _ (ap verdictOf (sym (c .refused3 .ensures)) ∙ q) }
+returns-3 c = turned-down (c .refused3 .ensures) (by-plan (c .before .before) _ (c .before .if2 .taken))
+
+-- a plan record that is taken
+taken : (c : tie.Else2) → PlanTaken (first (c .before))
+taken c = plan-taken _ (sym (c .before .bad-plan .ensures) ∙ c .if2 .left)
 
 read-barriers-requires : tie.Need-read-barriers-requires
 read-barriers-requires c κs =
-    let file = c .before .before .before .before .before .before .before .before .before .args .file .now in
-    let fine = sym (c .before .before .before .before .before .before .before .bad-length .ensures) ∙ c .before .before .before .before .before .before .if1 .left in
-    let e : decodedOf (recordAt file 0) ≡ Read (c .before .before .before .first .given .0 .0) = sym (c .before .before .before .before .before .decode .ensures) ∙ c .before .before .before .first .given .1 in
-    let good = sym (c .before .bad-plan .ensures) ∙ c .if2 .left in
-    let taken = plan-taken (c .before .before .before .first .given .0 .0) good in
-    let rest = plan-step file fine (c .before .before .before .first .given .0 .0) false e good in
-    let s = sized file fine in
-    (omega arith, (s .some, ap (λ (r : Body). r .op) (sym (told (recordAt file 0) _ e .1)) ∙ taken .op))
+    let p = c .before in
+    let s = size (sizedAt p) in
+    (omega arith, (s .some, ap (λ (b : Body). b .op) (sym (told (recordAt (file (sizedAt p)) 0) _ (first-read p) .1)) ∙ taken c .op))
 
 enum-known-verdict : tie.Need-enum-known-verdict
 enum-known-verdict c = search needs
+
+-- the verdict, from the barrier records on
+from-barriers : (c : tie.After-read-barriers)
+    → protocol.check (file (sizedAt (c .before .before)))
+    ≡ both (verdictOf (c .read-barriers .result .verdict)) (verdictFrom (file (sizedAt (c .before .before))) (count (sizedAt (c .before .before))) (c .read-barriers .result .next))
+from-barriers c = by-plan (c .before .before) _ (c .before .if2 .left) ∙ sym (c .read-barriers .ensures .verdict)
 
 refused-requires-4 : tie.Need-refused-requires-4
 refused-requires-4 c κs = search needs
 
 returns-4 : tie.Need-returns-4
 returns-4 c =
-    let file = c .before .before .before .before .before .before .before .before .before .before .before .before .before .before .args .file .now in
-    let fine = sym (c .before .before .before .before .before .before .before .before .before .before .before .before .bad-length .ensures) ∙ c .before .before .before .before .before .before .before .before .before .before .before .if1 .left in
-    let e : decodedOf (recordAt file 0) ≡ Read (c .before .before .before .before .before .before .before .before .first .given .0 .0) = sym (c .before .before .before .before .before .before .before .before .before .before .decode .ensures) ∙ c .before .before .before .before .before .before .before .before .first .given .1 in
-    let good = sym (c .before .before .before .before .before .before .bad-plan .ensures) ∙ c .before .before .before .before .before .if2 .left in
-    let taken = plan-taken (c .before .before .before .before .before .before .before .before .first .given .0 .0) good in
-    let rest = plan-step file fine (c .before .before .before .before .before .before .before .before .first .given .0 .0) false e good in
-    let end = sym (c .before .before .before .before .read-barriers .ensures .verdict) ∙ ap (λ (v : Verdict). both (verdictOf v) (verdictFrom file (length file / 7) (c .before .before .before .before .read-barriers .result .next))) (c .before .before .verdict .given .1) in
-    let bad = rest ∙ end in
-    record { verdict = ap verdictOf (c .refused4 .ensures) ∙ sym bad; layout = λ q. not-refused _ _ (ap verdictOf (sym (c .refused4 .ensures)) ∙ q) }
+    let r = c .before .before .before .before in
+    let f = file (sizedAt (r .before .before)) in
+    turned-down (c .refused4 .ensures)
+    (from-barriers r ∙ ap (λ (v : Verdict). both (verdictOf v) (verdictFrom f (length f / 7) (r .read-barriers .result .next))) (c .before .before .verdict .given .1))
 
 enum-told-2 : tie.Need-enum-told-2
 enum-told-2 c = search needs
 
+-- barrier records that are taken
+module _ (c : tie.After-enum-told2) where
+  abbrev planned : tie.After-bad-plan
+  planned = c .before .before .before .before
+
+  abbrev plan : List ℕ
+  plan = file (sizedAt planned)
+
+  from-steps : protocol.check plan ≡ verdictFrom plan (length plan / 7) (c .before .before .read-barriers .result .next)
+  from-steps =
+      from-barriers (c .before .before)
+      ∙ ap (λ (v : Verdict). both (verdictOf v) (verdictFrom plan (length plan / 7) (c .before .before .read-barriers .result .next))) (c .enum-told2 .given .1)
+
 read-steps-requires : tie.Need-read-steps-requires
 read-steps-requires c κs =
-    let file = c .before .before .before .before .before .before .before .before .before .before .before .before .before .before .before .args .file .now in
-    let fine = sym (c .before .before .before .before .before .before .before .before .before .before .before .before .before .bad-length .ensures) ∙ c .before .before .before .before .before .before .before .before .before .before .before .before .if1 .left in
-    let e : decodedOf (recordAt file 0) ≡ Read (c .before .before .before .before .before .before .before .before .before .first .given .0 .0) = sym (c .before .before .before .before .before .before .before .before .before .before .before .decode .ensures) ∙ c .before .before .before .before .before .before .before .before .before .first .given .1 in
-    let good = sym (c .before .before .before .before .before .before .before .bad-plan .ensures) ∙ c .before .before .before .before .before .before .if2 .left in
-    let taken = plan-taken (c .before .before .before .before .before .before .before .before .before .first .given .0 .0) good in
-    let rest = plan-step file fine (c .before .before .before .before .before .before .before .before .before .first .given .0 .0) false e good in
-    let br = c .before .before .before .before .before .read-barriers .ensures in
-    let s = sized file fine in
-    (omega arith, (steps-so-far file _ _ (c .before .before .before .before .before .read-barriers .result) br (ap verdictOf (c .before .before .before .enum-told2 .given .1)) (ap (λ (r : Body). r .worker) (sym (told (recordAt file 0) _ e .1))) (taken .most), refl))
+    let b = c .before .before .before in
+    let s = size (sizedAt (planned b)) in (
+      omega arith,
+      (
+        steps-so-far _ _ _ (b .before .before .read-barriers .result) (b .before .before .read-barriers .ensures) (ap verdictOf (b .enum-told2 .given .1)) (sym (same-worker (planned b)))
+            (taken (b .before .before .before) .most),
+        refl,
+      ),
+    )
 
 enum-known-verdict-2 : tie.Need-enum-known-verdict-2
 enum-known-verdict-2 c = search needs
+
+-- the verdict, from the skips on
+from-skips : (c : tie.After-read-steps)
+    → protocol.check (plan (c .before .before .before .before))
+    ≡ both (verdictOf (c .read-steps .result)) (protocol.checkSkips 0 (before (plan (c .before .before .before .before)) (length (plan (c .before .before .before .before)) / 7)))
+from-skips c = from-steps (c .before .before .before .before) ∙ sym (c .read-steps .ensures .verdict)
 
 refused-requires-5 : tie.Need-refused-requires-5
 refused-requires-5 c κs = search needs
 
 returns-5 : tie.Need-returns-5
 returns-5 c =
-    let file = c .before .before .before .before .before .before .before .before .before .before .before .before .before .before .before .before .before .before .before .before .args .file .now in
-    let fine = sym (c .before .before .before .before .before .before .before .before .before .before .before .before .before .before .before .before .before .before .bad-length .ensures) ∙ c .before .before .before .before .before .before .before .before .before .before .before .before .before .before .before .before .before .if1 .left in
-    let e : decodedOf (recordAt file 0) ≡ Read (c .before .before .before .before .before .before .before .before .before .before .before .before .before .before .first .given .0 .0) = sym (c .before .before .before .before .before .before .before .before .before .before .before .before .before .before .before .before .decode .ensures) ∙ c .before .before .before .before .before .before .before .before .before .before .before .before .before .before .first .given .1 in
-    let good = sym (c .before .before .before .before .before .before .before .before .before .before .before .before .bad-plan .ensures) ∙ c .before .before .before .before .before .before .before .before .before .before .before .if2 .left in
-    let taken = plan-taken (c .before .before .before .before .before .before .before .before .before .before .before .before .before .before .first .given .0 .0) good in
-    let rest = plan-step file fine (c .before .before .before .before .before .before .before .before .before .before .before .before .before .before .first .given .0 .0) false e good in
-    let barriers = ap (λ (v : Verdict). both (verdictOf v) (verdictFrom file (length file / 7) (c .before .before .before .before .before .before .before .before .before .before .read-barriers .result .next))) (sym (c .before .before .before .before .before .before .before .before .enum-told2 .given .1)) ∙ c .before .before .before .before .before .before .before .before .before .before .read-barriers .ensures .verdict in
-    let steps = c .before .before .before .before .read-steps .ensures in
-    let bad = rest ∙ (sym barriers ∙ (sym (steps .verdict) ∙ ap (λ (v : Verdict). both (verdictOf v) (protocol.checkSkips 0 (before file (length file / 7)))) (c .before .before .verdict2 .given .1))) in
-    record { verdict = ap verdictOf (c .refused5 .ensures) ∙ sym bad; layout = λ q. not-refused _ _ (ap verdictOf (sym (c .refused5 .ensures)) ∙ q) }
+    let r = c .before .before .before .before in
+    let f = plan (r .before .before .before .before) in
+    turned-down (c .refused5 .ensures)
+    (from-skips r ∙ ap (λ (v : Verdict). both (verdictOf v) (protocol.checkSkips 0 (before f (length f / 7)))) (c .before .before .verdict2 .given .1))
 
 enum-told-3 : tie.Need-enum-told-3
 enum-told-3 c = search needs
 
 check-skips-requires : tie.Need-check-skips-requires
 check-skips-requires c κs =
-    let file = c .before .before .before .before .before .before .before .before .before .before .before .before .before .before .before .before .before .before .before .args .file .now in
-    let fine = sym (c .before .before .before .before .before .before .before .before .before .before .before .before .before .before .before .before .before .bad-length .ensures) ∙ c .before .before .before .before .before .before .before .before .before .before .before .before .before .before .before .before .if1 .left in
-    let e : decodedOf (recordAt file 0) ≡ Read (c .before .before .before .before .before .before .before .before .before .before .before .before .before .first .given .0 .0) = sym (c .before .before .before .before .before .before .before .before .before .before .before .before .before .before .before .decode .ensures) ∙ c .before .before .before .before .before .before .before .before .before .before .before .before .before .first .given .1 in
-    let good = sym (c .before .before .before .before .before .before .before .before .before .before .before .bad-plan .ensures) ∙ c .before .before .before .before .before .before .before .before .before .before .if2 .left in
-    let taken = plan-taken (c .before .before .before .before .before .before .before .before .before .before .before .before .before .first .given .0 .0) good in
-    let rest = plan-step file fine (c .before .before .before .before .before .before .before .before .before .before .before .before .before .first .given .0 .0) false e good in
-    let s = sized file fine in
-    let steps = c .before .before .before .read-steps .ensures in
-    let ok = ap verdictOf (c .before .enum-told3 .given .1) in
-    (omega arith, (omega arith, laid file _ _ _ _ _ steps ok s (ap (λ (r : Body). r .worker) (sym (told (recordAt file 0) _ e .1))) (taken .most)))
+    let r = c .before .before .before in
+    let b = r .before .before .before .before in
+    let s = size (sizedAt (planned b)) in (
+      omega arith,
+      (
+        omega arith,
+        laid _ _ _ _ _ _ (r .read-steps .ensures) (ap verdictOf (c .before .enum-told3 .given .1)) s (sym (same-worker (planned b))) (taken (b .before .before .before) .most),
+      ),
+    )
 
 returns-6 : tie.Need-returns-6
 returns-6 c =
-    let file = c .before .before .before .before .before .before .before .before .before .before .before .before .before .before .before .before .before .before .before .before .args .file .now in
-    let fine = sym (c .before .before .before .before .before .before .before .before .before .before .before .before .before .before .before .before .before .before .bad-length .ensures) ∙ c .before .before .before .before .before .before .before .before .before .before .before .before .before .before .before .before .before .if1 .left in
-    let e : decodedOf (recordAt file 0) ≡ Read (c .before .before .before .before .before .before .before .before .before .before .before .before .before .before .first .given .0 .0) = sym (c .before .before .before .before .before .before .before .before .before .before .before .before .before .before .before .before .decode .ensures) ∙ c .before .before .before .before .before .before .before .before .before .before .before .before .before .before .first .given .1 in
-    let good = sym (c .before .before .before .before .before .before .before .before .before .before .before .before .bad-plan .ensures) ∙ c .before .before .before .before .before .before .before .before .before .before .before .if2 .left in
-    let taken = plan-taken (c .before .before .before .before .before .before .before .before .before .before .before .before .before .before .first .given .0 .0) good in
-    let rest = plan-step file fine (c .before .before .before .before .before .before .before .before .before .before .before .before .before .before .first .given .0 .0) false e good in
-    let barriers = ap (λ (v : Verdict). both (verdictOf v) (verdictFrom file (length file / 7) (c .before .before .before .before .before .before .before .before .before .before .read-barriers .result .next))) (sym (c .before .before .before .before .before .before .before .before .enum-told2 .given .1)) ∙ c .before .before .before .before .before .before .before .before .before .before .read-barriers .ensures .verdict in
-    let steps = c .before .before .before .before .read-steps .ensures in
+    let r = c .before .before .before .before in
+    let b = r .before .before .before .before in
     let ok = ap verdictOf (c .before .before .enum-told3 .given .1) in
-    let all = rest ∙ (sym barriers ∙ (sym (steps .verdict) ∙ ap (λ (v : protocol.Verdict). both v (protocol.checkSkips 0 (before file (length file / 7)))) ok)) in
+    let f = plan b in
     record {
-      verdict = c .check-skips .ensures ∙ sym all;
-      layout = λ q. laid-out file _ _ _ _ _ steps ok (sized file fine) (ap (λ (r : Body). r .worker) (told (recordAt file 0) _ e .1)) (c .before .before .before .before .before .before .before .before .before .before .read-barriers .ensures .sizes .eight);
+      verdict = c .check-skips .ensures ∙ sym (from-skips r ∙ ap (λ (v : protocol.Verdict). both v (protocol.checkSkips 0 (before f (length f / 7)))) ok);
+      layout = λ q. laid-out _ _ _ _ _ _ (r .read-steps .ensures) ok (size (sizedAt (planned b))) (same-worker (planned b)) (b .before .before .read-barriers .ensures .sizes .eight);
     }
 
 pub check-spec : {M : Type 1} → statement M
