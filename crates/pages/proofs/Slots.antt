@@ -1,15 +1,15 @@
 -- From a slot to a worker's copies, and what the code's stores and copies do to a slot.
-use Prim.Native.Nat.{ℕ, _+_, _*_, _<_, _≤_, _/_, _%_}
+use Prim.Native.Nat.{ℕ, zero, suc, _+_, _*_, _<_, _≤_, _/_, _%_}
 use native.Mathlib.Omega.{arith}
 use native.Mathlib.Decide.{ℕ-discrete, decLt}
 use mathlib.Core.Path.{_≡_, refl, sym, ap, _∙_, subst, subst⁻¹}
 use mathlib.Core.Logic.{inl, inr}
-use mathlib.Core.Bool.{Bool, true, false}
+use mathlib.Core.Bool.{Bool, true, false, _||_}
 use mathlib.Core.List.{List}
 use lib.ListN.{length, getD, set, take, drop, length-set, length-drop, replicate, length-replicate}
 use lib.Seq.{ext-getD, getD-set-same, getD-set-other, paste, length-paste, take-take}
 use Rattle.protocol.specs.Pages.{pageSize, pageCount, page, Copy, absent, copied, Copies, noCopies, pageOf, offsetOf, copyOf, loaded, loadByte, opened, stored, storeByte, storeWord}
-use Rattle.pages.specs.Copies.{part, slotOf, copyAt, twinAt, marked, slotCopy, copyIn, copiesIn, SlotHolds, WorkerHolds}
+use Rattle.pages.specs.Copies.{part, slotOf, copyAt, twinAt, marked, slotCopy, copyIn, copiesIn, anyCopied, SlotHolds, WorkerHolds}
 use Rattle.pages.proofs.Parts.{Apart, getD-same, getD-part, part-set-here, part-set-apart, part-paste-here, part-paste-apart, getD-count, length-count}
 
 -- ---- what a slot holds
@@ -60,6 +60,21 @@ pub unmarked : (n : ℕ) (work : List ℕ) (w : ℕ) → copiesIn (replicate n f
 unfolding noCopies
 unmarked n work w = copies-are (replicate n false) work w noCopies (length-replicate pageCount absent) (λ p h.
     not-in-use (replicate n false) work (slotOf w p) (getD-same n (slotOf w p) false) ∙ sym (getD-same pageCount p absent))
+
+neither : (a b : Bool) → a || b ≡ false → (a ≡ false) × (b ≡ false)
+neither false b e = (refl, e)
+neither true b e = (e, cc)
+
+-- none of the first k pages is copied
+pub none-copied : (marks : List Bool) (w k : ℕ) → anyCopied marks w k ≡ false → (p : ℕ) → p < k → getD marks (slotOf w p) false ≡ false
+unfolding anyCopied
+none-copied marks w zero e p h = absurd (omega arith)
+none-copied marks w (suc k) e p h =
+    let off = neither (anyCopied marks w k) (getD marks (slotOf w k) false) e in
+    elim (ℕ-discrete p k) [
+      | yes same ↦ ap (λ (q : ℕ). getD marks (slotOf w q) false) same ∙ off .1
+      | no other ↦ none-copied marks w k (off .0) p (omega arith)
+    ]
 
 -- one slot changed is one page of its worker changed
 module _ (w p : ℕ) (copy : Copy) (marks : List Bool) (work : List ℕ) (marks′ : List Bool) (work′ : List ℕ) where

@@ -1,7 +1,7 @@
 -- Document 01's page copies, as they stand in the marks and the bytes of `work`.
-use Prim.Native.Nat.{ℕ, _+_, _*_}
+use Prim.Native.Nat.{ℕ, zero, suc, _+_, _*_}
 use mathlib.Core.Path.{_≡_}
-use mathlib.Core.Bool.{Bool, true, false}
+use mathlib.Core.Bool.{Bool, true, false, _||_}
 use mathlib.Core.List.{List, map}
 use lib.ListN.{length, getD, take, drop}
 use Rattle.protocol.specs.Format.{upTo}
@@ -40,6 +40,11 @@ copyIn marks work w p = slotCopy marks work (slotOf w p)
 -- the copies of worker w, one for each page
 unfoldable pub copiesIn : List Bool → List ℕ → ℕ → Copies
 copiesIn marks work w = map (λ p. copyIn marks work w p) (upTo pageCount)
+
+-- whether worker w has a copy of one of the first k pages
+unfoldable pub anyCopied : List Bool → ℕ → ℕ → Bool
+anyCopied marks w zero = false
+anyCopied marks w (suc k) = anyCopied marks w k || getD marks (slotOf w k) false
 
 -- One slot holds the given copy, and every other slot what it held.
 pub record SlotHolds (slot : ℕ) (copy : Copy) (marks : List Bool) (work : List ℕ) (marks′ : List Bool) (work′ : List ℕ) : Type 0 where

@@ -2,14 +2,13 @@
 // working copy of 256 bytes and then its twin. A slot is a worker's place for one page, 8 × worker + page, and `copied` marks
 // the slots in use.
 ghost use mathlib.Core.Path.{_≡_};
-ghost use mathlib.Core.Bool.{false};
 ghost use mathlib.Core.List.{List};
 ghost use Prim.Native.Nat.{ℕ, _+_, _*_, _<_, _≤_, _/_, _%_};
-ghost use lib.ListN.{length, getD, drop, set, replicate};
+ghost use lib.ListN.{length, drop, set, replicate};
 ghost use lib.Seq.{paste};
 ghost use Rattle.protocol.specs.Format.{word};
 ghost use Rattle.protocol.specs.Pages.{pageSize, pageCount, page, noCopies, opened, loadByte, loadWord, storeByte, storeWord, commit};
-ghost use Rattle.pages.specs.Copies.{Sizes, slotOf, slotCopy, copiesIn, SlotHolds, WorkerHolds, Committed};
+ghost use Rattle.pages.specs.Copies.{Sizes, slotCopy, copiesIn, anyCopied, SlotHolds, WorkerHolds, Committed};
 
 pub struct Page;
 
@@ -178,7 +177,7 @@ pub fn discard(copied: &mut [bool; 64], w: usize)
 // Whether a worker has a copy of any page. Each mark is read, so that all are read at once.
 fn any_copy(copied: &[bool; 64], w: usize) -> bool
     requires { ⌜ w < 8 ⌝ }
-    ensures { λ r. ⌜ (r ≡ false → (p : ℕ) → p < pageCount → getD (now (copied .entry)) (slotOf w p) false ≡ false) ⌝ }
+    ensures { λ r. ⌜ r ≡ anyCopied (now (copied .entry)) w pageCount ⌝ }
 {
     let mut any = false;
     let mut p = 0;

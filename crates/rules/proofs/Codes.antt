@@ -9,7 +9,7 @@ use mathlib.Core.Path.{_≡_, refl}
 use lib.Dec.{ltb, eqb}
 use Rattle.protocol.specs.Format.{Record, rowIn, rowOf, stepOf, sync, exit}
 use Rattle.protocol.specs.Steps.{Queue, onCondition, atBarrier, Fate, going, exited, failed, waiting}
-use Rattle.protocol.specs.Rounds.{waitsOn, isWaiting, hasArrived, opOf, operandOf}
+use Rattle.protocol.specs.Rounds.{waitsOn, isWaiting, opOf, operandOf}
 use Rattle.protocol.proofs.Each.{each}
 use Rattle.rules.specs.Codes.{fateCode, fateOf, syncOf}
 
@@ -53,23 +53,6 @@ code-waits k = go (ltb k 3) (eqb k 0) (eqb k 1) _
     go true false true q = refl
     go true false false q = refl
     go false zero one q = refl
-
-pub gone-here : (k : ℕ) → ltb k 3 ≡ true → hasArrived (fateOf k) ≡ false
-unfolding fateOf
-gone-here k e = rw e (go (eqb k 0) (eqb k 1))
-  where
-    go : (zero one : Bool) → hasArrived (cond zero going (cond one exited failed)) ≡ false
-    go true one = refl
-    go false true = refl
-    go false false = refl
-
-pub waits-here : (k : ℕ) → ltb k 3 ≡ false → hasArrived (fateOf k) ≡ eqb (k % 2) 0
-unfolding fateOf
-waits-here k e = rw e (go (eqb (k % 2) 0) ((k - 4) / 2) ((k - 5) / 2))
-  where
-    go : (b : Bool) (c d : ℕ) → hasArrived (waiting (cond b (onCondition c) (atBarrier d))) ≡ b
-    go true c d = refl
-    go false c d = refl
 
 -- the step of a record of the plan file
 pub step-sync : (r : Record) → 32 ≤ r .op → r .op ≤ 38 → stepOf r ≡ sync (syncOf (r .op) (r .number))

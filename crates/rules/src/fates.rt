@@ -2,14 +2,12 @@
 use crate::ruling::Goes;
 use crate::ruling::Ruling;
 use queue::Queue;
-ghost use mathlib.Core.Bool.{true};
 ghost use mathlib.Core.Path.{_≡_};
 ghost use mathlib.Core.List.{_++_};
 ghost use Prim.Native.Nat.{_<_};
 ghost use lib.ListN.{length};
-ghost use Rattle.protocol.specs.Rounds.{arrivedAfter};
 ghost use Rattle.queue.specs.List.{listOf, Good, Below, setAll};
-ghost use Rattle.rules.specs.Codes.{goesOf, codeAfter};
+ghost use Rattle.rules.specs.Codes.{codeAfter};
 ghost use Rattle.rules.specs.Rules.{wokenOf, joinedOf};
 ghost use Rattle.rules.specs.Fates.{Freeing, Settled};
 
@@ -21,17 +19,6 @@ pub fn code_after(goes: Goes) -> u64
         Goes::Keeps => 0,
         Goes::Gives => 0,
         Goes::Leaves(k) => k,
-    }
-}
-
-// Whether the holder has arrived where it goes.
-pub fn arrived_after(goes: Goes) -> bool
-    ensures { λ r. ⌜ r ≡ arrivedAfter (goesOf goes) ⌝ }
-{
-    match goes {
-        Goes::Keeps => true,
-        Goes::Gives => false,
-        Goes::Leaves(k) => if k < 3 { false } else { k % 2 == 0 },
     }
 }
 

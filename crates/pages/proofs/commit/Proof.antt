@@ -2,9 +2,9 @@
 use borrow.Author.Needs.{needs}
 use borrow.Author.Tests.{not-true}
 use mathlib.Core.Path.{refl, sym, ap, _∙_}
-use Rattle.protocol.specs.Pages.{Copies, commit}
+use Rattle.protocol.specs.Pages.{pageCount, Copies, commit}
 use Rattle.pages.specs.Copies.{copiesIn}
-use Rattle.pages.proofs.Slots.{unmarked-worker}
+use Rattle.pages.proofs.Slots.{none-copied, unmarked-worker}
 use Rattle.pages.proofs.Commits.{commit-none, commit-size}
 use Rattle.pages.proofs.commit.Statement.{statement}
 use Rattle.pages.proofs.commit.Tie as tie
@@ -16,7 +16,8 @@ returns : tie.Need-returns
 returns c =
     let a = c .before .before .before .before .before .args in
     let memory = a .memory .now in
-    let dropped = unmarked-worker (a .w) (a .copied .now) (a .copied .now) (a .work .now) refl (c .before .any-copy .ensures (not-true (c .before .any-copy .result) (c .if1 .taken))) (λ s h. refl) in
+    let off = none-copied (a .copied .now) (a .w) pageCount (sym (c .before .any-copy .ensures) ∙ not-true (c .before .any-copy .result) (c .if1 .taken)) in
+    let dropped = unmarked-worker (a .w) (a .copied .now) (a .copied .now) (a .work .now) refl off (λ s h. refl) in
     record { shared = commit-none memory ∙ ap (λ (k : Copies). commit k memory) (sym (dropped .mine)); dropped = dropped; size = refl }
 
 commit-pages-requires : tie.Need-commit-pages-requires
