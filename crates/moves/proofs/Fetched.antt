@@ -16,7 +16,7 @@ use Rattle.protocol.specs.Refusals.{accepted, check, operandsOutside, anyOf}
 use Rattle.protocol.specs.Steps.{stepsOf, stepAt}
 use Rattle.protocol.proofs.Records.{or-left, or-right, and-left, names, first-inside}
 use Rattle.protocol.proofs.Tabled.{Every, row-of}
-use Rattle.protocol.proofs.Prefix.{blank}
+use Rattle.protocol.specs.WellFormed.{blank}
 use Rattle.protocol.proofs.Accepted.{AcceptedFile, accepted-file, length-records, steps-of, size-of}
 use Rattle.plan.specs.Answer.{bodyOf}
 use Rattle.plan.specs.declared.decode.Record.{Record}

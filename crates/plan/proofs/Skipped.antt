@@ -9,14 +9,14 @@ use native.Mathlib.Decide.{decLt}
 use lib.Dec.{leb, ltb, eqb}
 use lib.ListN.{length, getD, drop}
 use borrow.Author.Tests.{le-leb, eqb-true}
-use Rattle.protocol.specs.Format.{Record, recordsFrom, known, rowIn, isStep, stepsIn, firstIn}
+use Rattle.protocol.specs.Format.{Record, recordsFrom, known, rowIn, isStep, isSkip, stepsIn, firstIn}
 use Rattle.protocol.specs.Refusals as protocol
 use Rattle.protocol.specs.Refusals.{ruled, refuseIf, holds, checkSkips, skipRule}
 use Rattle.protocol.proofs.Records.{split, ltb-same, from, first-least, first-unopened}
-use Rattle.protocol.proofs.Prefix.{blank}
+use Rattle.protocol.specs.WellFormed.{blank}
 use Rattle.plan.specs.Answer.{bodyOf}
 use Rattle.plan.specs.Reading.{recordAt, before}
-use Rattle.plan.specs.Skipping.{isSkip, tooFar, Laid}
+use Rattle.plan.specs.Skipping.{tooFar, Laid}
 use Rattle.plan.proofs.Readings.{length-before}
 
 -- a record by its index, and the records behind it

@@ -1,21 +1,18 @@
 -- What the test of the skips goes by: where each worker's steps begin.
 use Prim.Native.Nat.{ℕ, _+_, _<_, _≤_}
-use mathlib.Core.Bool.{Bool, _&&_, _||_}
+use mathlib.Core.Bool.{Bool, _&&_}
 use mathlib.Core.Path.{_≡_}
 use mathlib.Core.List.{List}
-use lib.Dec.{ltb, eqb}
+use lib.Dec.{ltb}
 use lib.ListN.{getD}
 use Rattle.protocol.specs.Format as format
 use Rattle.protocol.proofs.Prefix.{Read}
 use Rattle.plan.specs.Reading.{before}
 use Rattle.plan.specs.declared.decode.Record.{Record}
 
-abbrev pub isSkip : ℕ → Bool
-isSkip op = eqb op 21 || eqb op 22
-
 -- record i skips past the next worker's first step
 abbrev pub tooFar : List ℕ → ℕ → Record → Bool
-tooFar firsts i r = isSkip (r .op) && ltb (getD firsts (r .worker + 1) 0) (i + 1 + r .number)
+tooFar firsts i r = format.isSkip (r .op) && ltb (getD firsts (r .worker + 1) 0) (i + 1 + r .number)
 
 -- all records are read, and the firsts are known
 pub record Laid (file : List ℕ) (count : ℕ) (firsts : List ℕ) : Type 0 where

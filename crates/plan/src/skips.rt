@@ -9,7 +9,8 @@ ghost use Prim.Native.Nat.{_+_, _*_, _≤_, _<_};
 ghost use lib.ListN.{length};
 ghost use Rattle.plan.specs.Answer.{verdictOf};
 ghost use Rattle.plan.specs.Reading.{before};
-ghost use Rattle.plan.specs.Skipping.{isSkip, tooFar, Laid};
+ghost use Rattle.plan.specs.Skipping.{tooFar, Laid};
+ghost use Rattle.protocol.specs.Format.{isSkip};
 ghost use Rattle.protocol.specs.Refusals.{checkSkips};
 
 fn is_skip(op: u8) -> bool

@@ -1,6 +1,6 @@
 -- What an accepted file is: its records are read as `Prefix` says, its skips stay inside, and the plan that it holds is sound.
 use Prim.Native.Nat.{ℕ, zero, suc, _+_, _*_, _%_, _<_, _≤_}
-use mathlib.Core.Bool.{Bool, true, cond, not, _&&_, _||_, false≢true}
+use mathlib.Core.Bool.{Bool, true, false, cond, not, _&&_, _||_, false≢true}
 use mathlib.Core.Path.{_≡_, refl, sym, ap, _∙_, subst, subst⁻¹}
 use mathlib.Core.List.{List, [], _∷_, _++_, map, append-assoc, append-nil}
 use mathlib.Core.Option.{none, some}
@@ -9,15 +9,16 @@ use native.Mathlib.Decide.{decLt}
 use lib.Dec.{ltb, eqb}
 use lib.ListN.{length, getD, drop, length-append, length-map, List·getD-map, List·getD-eq-default}
 use borrow.Author.Tests.{ltb-false, eqb-true, eqb-false, not-false}
-use Rattle.protocol.specs.Format.{Record, planMark, known, rowIn, recordsFrom, recordCount, records, isStep, workersIn, stepsIn, Step, sync, exit, own, skipZero, skipNonzero, firstIn, sizeIn, barrierCount, countFrom, upTo, planIn, planOf}
+use Rattle.protocol.specs.Format.{Record, planMark, known, rowIn, recordsFrom, recordCount, records, isStep, isSkip, workersIn, stepsIn, Step, sync, exit, own, skipZero, skipNonzero, firstIn, sizeIn, barrierCount, countFrom, upTo, planIn, planOf}
 use Rattle.protocol.specs.Refusals.{Refusal, Rule, Verdict, accepted, refused, ruled, holds, badMark, badPlan, badLength, outside, lengthRule, planRule, laterRule, recordRule, skipTooFar, skipRule, checkSkips, checkRecords, check}
 use Rattle.protocol.specs.Steps.{stepsOf, stepAt}
 use Rattle.protocol.specs.Turns.{workersOf}
-use Rattle.protocol.proofs.Records.{one, or-left, or-right, and-left, and-right, first-unopened, first-inside}
-use Rattle.protocol.proofs.Taken.{passes}
-use Rattle.protocol.proofs.Tabled.{stepOp, skipLength, isSkip, step-op, step-skip}
+use Rattle.protocol.specs.WellFormed.{blank, PlanRecord}
+use Rattle.protocol.proofs.Records.{one, or-false, or-left, or-right, and-left, and-right, first-unopened, first-inside}
+use Rattle.protocol.proofs.Taken.{passes, none-of}
+use Rattle.protocol.proofs.Tabled.{stepOp, skipLength, step-op, step-skip}
 use Rattle.protocol.proofs.Sound.{Sound}
-use Rattle.protocol.proofs.Prefix.{blank, Read, read-first, read-more}
+use Rattle.protocol.proofs.Prefix.{Read, read-first, read-more}
 
 -- a verdict that accepts: the rule holds, and so does what comes after it
 pub accepts : (rule : Rule) (i : ℕ) (next : Verdict) → ruled rule i next ≡ accepted → (rule ≡ holds) × (next ≡ accepted)
@@ -38,23 +39,21 @@ all-read q qs (r ∷ rest) read e =
     subst Whole (append-assoc (q ∷ qs) (one r) rest)
     (all-read q (qs ++ one r) rest (read-more q qs r read later) (t .1))
 
-pub record PlanRecord (r : Record) : Type 0 where
-  pub op : r .op ≡ 0
-  pub least : 1 ≤ r .worker
-  pub most : r .worker ≤ 8
+-- what the rule of a plan record tests
+abbrev pub planTest : Record → Bool
+planTest r = not (eqb (r .op) 0) || outside 1 8 (r .worker) || not (eqb (r .register) 0) || not (eqb (r .number) 0)
 
-plan-record : (r : Record) → planRule r ≡ holds → PlanRecord r
+pub plan-record : (r : Record) → planRule r ≡ holds → PlanRecord r
 unfolding planRule
 plan-record r e =
-    let size = outside 1 8 (r .worker) in
-    let t = passes (not (eqb (r .op) 0) || size || not (eqb (r .register) 0) || not (eqb (r .number) 0)) badPlan holds e .0 in
-    let t₁ = or-left (not (eqb (r .op) 0) || size || not (eqb (r .register) 0)) (not (eqb (r .number) 0)) t in
-    let t₂ = or-left (not (eqb (r .op) 0) || size) (not (eqb (r .register) 0)) t₁ in
-    let t₃ = or-right (not (eqb (r .op) 0)) t₂ in
+    let t = none-of (not (eqb (r .op) 0)) (outside 1 8 (r .worker)) (not (eqb (r .register) 0)) (not (eqb (r .number) 0)) false
+    (or-false (planTest r) ∙ passes (planTest r) badPlan holds e .0) in
     record {
-      op = eqb-true (r .op) 0 (not-false _ (or-left (not (eqb (r .op) 0)) size t₂));
-      least = ltb-false _ _ (or-left (ltb (r .worker) 1) (ltb 8 (r .worker)) t₃);
-      most = ltb-false _ _ (or-right (ltb (r .worker) 1) t₃);
+      op = eqb-true (r .op) 0 (not-false _ (t .0));
+      least = ltb-false _ _ (or-left (ltb (r .worker) 1) (ltb 8 (r .worker)) (t .1));
+      most = ltb-false _ _ (or-right (ltb (r .worker) 1) (t .1));
+      register = eqb-true (r .register) 0 (not-false _ (t .2));
+      number = eqb-true (r .number) 0 (not-false _ (t .3));
     }
 
 -- the rule of each skip holds, with the records behind it
@@ -71,7 +70,7 @@ pub record Accepted (rs : List Record) : Type 0 where
   pub read : Read rs
   pub skips : (k : ℕ) → k < length rs → skipRule (getD rs k blank) (drop (suc k) rs) ≡ holds
 
-accepted-records : (rs : List Record) → (length rs ≡ 0 → ⊥) → checkRecords [] rs ≡ accepted → Accepted rs
+pub accepted-records : (rs : List Record) → (length rs ≡ 0 → ⊥) → checkRecords [] rs ≡ accepted → Accepted rs
 unfolding checkRecords recordRule known rowIn
 accepted-records [] n e = absurd (n refl)
 accepted-records (r ∷ rest) n e =
@@ -90,7 +89,7 @@ pub record Length (file : List ℕ) : Type 0 where
   pub most : recordCount file ≤ 1033
   pub bytes : length file ≡ 7 * recordCount file
 
-length-right : (file : List ℕ) → lengthRule (length file) ≡ holds → Length file
+pub length-right : (file : List ℕ) → lengthRule (length file) ≡ holds → Length file
 unfolding lengthRule recordCount
 length-right file e =
     let t = passes (eqb (length file) 0 || not (eqb (length file % 7) 0) || ltb 7231 (length file)) badLength holds e .0 in

@@ -13,6 +13,8 @@ use Rattle.protocol.specs.Report.{finished, stuck, underWay, allLeft, en
 use Rattle.protocol.specs.Calls.{Buffers, buffersOf, lentLog, playedFrom, outcomeOf, runVerdict, run}
 use Rattle.protocol.specs.Demands.{Demand3, Demand3Bytes}
 use Rattle.protocol.proofs.Sound.{Sound}
+use Rattle.protocol.proofs.Accepted.{sound-file}
+use Rattle.protocol.proofs.Formed.{run-file}
 use Rattle.protocol.proofs.Demand3.{demand3}
 use Rattle.protocol.proofs.Bounds.{Bounded, played-bounded}
 
@@ -58,12 +60,13 @@ left-bytes plan sound memory turns =
     d : Demand3 plan memory turns
     d = demand3 plan sound memory turns
 
-pub demand3-bytes : (file turns : List ℕ) (b : Buffers) → runVerdict file turns b ≡ accepted → Sound (planOf file)
+-- Demand 3 of the bytes that an accepted run leaves, closed too.
+pub demand3-bytes : (file turns : List ℕ) (b : Buffers) → runVerdict file turns b ≡ accepted
     → Demand3Bytes (planOf file) (b .memory) turns (run file turns b .buffers)
 unfolding run
-demand3-bytes file turns b ok sound =
+demand3-bytes file turns b ok =
     subst⁻¹ (λ (v : Verdict). Demand3Bytes plan (b .memory) turns (outcomeOf v (playedFrom plan (b .memory) turns) b .buffers)) ok
-    (left-bytes plan sound (b .memory) turns)
+    (left-bytes plan (sound-file file (run-file file turns b ok)) (b .memory) turns)
   where
     plan : Plan
     plan = planOf file

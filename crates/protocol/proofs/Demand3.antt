@@ -4,12 +4,14 @@ use native.Mathlib.Omega.{arith}
 use mathlib.Core.Path.{_≡_, refl, ap, subst⁻¹}
 use mathlib.Core.Bool.{true, cond}
 use mathlib.Core.List.{List, [], _∷_}
-use Rattle.protocol.specs.Format.{Plan}
+use Rattle.protocol.specs.Format.{Plan, planOf}
+use Rattle.protocol.specs.Refusals.{accepted, check}
 use Rattle.protocol.specs.Rounds.{Entry, State}
 use Rattle.protocol.specs.Turns.{workersOf, start, can, turn, play, movingTurns, ended}
 use Rattle.protocol.specs.RoundRun.{roundRun}
 use Rattle.protocol.specs.Demands.{Demand3, Prefix}
 use Rattle.protocol.proofs.Sound.{Sound}
+use Rattle.protocol.proofs.Accepted.{sound-file}
 use Rattle.protocol.proofs.Confluence.{Machine, Laws, play as played, movingTurns as moved, play-sameEnd, play-logPrefix, play-counts, play-falls, cycles-end}
 use Rattle.protocol.proofs.Invariant.{Inv}
 use Rattle.protocol.proofs.Laws.{start-inv, start-measure, kept, falls, counts, grows, stays, commute, end-stops, goes-on}
@@ -83,3 +85,7 @@ demand3 plan sound memory turns =
 
     same : play plan s turns ≡ played m s turns
     same = same-play plan s turns
+
+-- Demand 3, closed: for every file that the check accepts, every starting memory and every list of turns.
+pub demand3-file : (file : List ℕ) → check file ≡ accepted → (memory turns : List ℕ) → Demand3 (planOf file) memory turns
+demand3-file file ok memory turns = demand3 (planOf file) (sound-file file ok) memory turns

@@ -13,12 +13,9 @@ use lib.Seq.{getD-at, drop-append-le}
 use borrow.Author.Tests.{eq-eqb, ne-eqb, leb-true, leb-false, eqb-true, eqb-false}
 use Rattle.protocol.specs.Format.{Record, Step, sync, exit, rowOf, isBarrier, isStep, isStepOf, workersIn, sizeIn, stepsIn, stepOf, firstIn}
 use Rattle.protocol.specs.Refusals.{anyOf, holds, operandsOutside, laterRule}
+use Rattle.protocol.specs.WellFormed.{blank}
 use Rattle.protocol.proofs.Records.{one, one-step, split, or-false, and-right, topIn, anyOf-one, topIn-kept, topIn-raised, openedIn, names, names-new, sizeIn-other, sizeIn-new, stepsIn-one, first-unopened, first-inside, first-grows, first-one-opened, first-one-unopened}
 use Rattle.protocol.proofs.Taken.{StepTaken, BarrierTaken, later-taken}
-
--- no record: its op has no row
-abbrev pub blank : Record
-blank = record { mark = 0; worker = 0; op = 0; register = 0; number = 0 }
 
 abbrev pub Together : List Record → Type 0
 Together rs = (w : ℕ) → firstIn rs w + length (stepsIn rs w) ≡ firstIn rs (suc w)

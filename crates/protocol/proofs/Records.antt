@@ -147,17 +147,18 @@ names-new rs b h =
     (reaches isBarrier (λ q. q .register) b rs ∙ le-ltb b (lowIn rs) h)
 
 -- The steps.
-pub stepsIn-one : (rs : List Record) (r : Record) (w : ℕ) → stepsIn (rs ++ one r) w ≡ stepsIn rs w ++ cond (isStepOf w r) (one-step r) []
+pub stepsIn-append : (rs qs : List Record) (w : ℕ) → stepsIn (rs ++ qs) w ≡ stepsIn rs w ++ stepsIn qs w
 unfolding stepsIn
-stepsIn-one [] r w = refl
-stepsIn-one (q ∷ rs) r w = ap (λ (l : List Step). cond (isStepOf w q) (stepOf q ∷ l) l) (stepsIn-one rs r w) ∙ go (isStepOf w q)
+stepsIn-append [] qs w = refl
+stepsIn-append (r ∷ rs) qs w = ap (λ (l : List Step). cond (isStepOf w r) (stepOf r ∷ l) l) (stepsIn-append rs qs w) ∙ go (isStepOf w r)
   where
-    last : List Step
-    last = cond (isStepOf w r) (one-step r) []
-
-    go : (t : Bool) → cond t (stepOf q ∷ (stepsIn rs w ++ last)) (stepsIn rs w ++ last) ≡ cond t (stepOf q ∷ stepsIn rs w) (stepsIn rs w) ++ last
+    go : (t : Bool) → cond t (stepOf r ∷ (stepsIn rs w ++ stepsIn qs w)) (stepsIn rs w ++ stepsIn qs w) ≡ cond t (stepOf r ∷ stepsIn rs w) (stepsIn rs w) ++ stepsIn qs w
     go true = refl
     go false = refl
+
+pub stepsIn-one : (rs : List Record) (r : Record) (w : ℕ) → stepsIn (rs ++ one r) w ≡ stepsIn rs w ++ cond (isStepOf w r) (one-step r) []
+unfolding stepsIn
+stepsIn-one rs r w = stepsIn-append rs (one r) w
 
 -- Where a worker's steps begin.
 abbrev pub from : ℕ → Record → Bool

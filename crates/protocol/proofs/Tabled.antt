@@ -1,12 +1,12 @@
 -- The paper's table of steps: of every row, what its step is. One law over the rows.
 use Prim.Native.Nat.{ℕ}
-use mathlib.Core.Bool.{Bool, true, false, cond, _||_, false≢true}
+use mathlib.Core.Bool.{Bool, true, false, cond, false≢true}
 use mathlib.Core.Path.{_≡_, refl, ap, _∙_}
 use mathlib.Core.List.{List, [], _∷_}
 use mathlib.Core.Option.{Option, none, some}
 use lib.Dec.{eqb}
 use borrow.Author.Tests.{eqb-true}
-use Rattle.protocol.specs.Format.{Record, Own, assign, load, store, add, subtract, skipZero, skipNonzero, Step, own, sync, exit, Row, table, rowIn, rowOf, known, isStep, stepOf}
+use Rattle.protocol.specs.Format.{Record, Own, assign, load, store, add, subtract, skipZero, skipNonzero, Step, own, sync, exit, Row, table, rowIn, rowOf, known, isStep, isSkip, stepOf}
 use Rattle.protocol.specs.Rounds.{opOf}
 
 -- what holds of every row
@@ -54,9 +54,6 @@ ownSkip (skipNonzero r k) = k
 abbrev pub skipLength : Step → ℕ
 skipLength (own o) = ownSkip o
 skipLength (sync y) = 0
-
-abbrev pub isSkip : ℕ → Bool
-isSkip o = eqb o 21 || eqb o 22
 
 pub record Right (x : Row) : Type 0 where
   pub op : (r k : ℕ) → stepOp (x .step r k) ≡ x .op

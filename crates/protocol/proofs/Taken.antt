@@ -35,6 +35,7 @@ pub record BarrierTaken (before : List Record) (r : Record) : Type 0 where
   pub noStep : isStep r ≡ false
   pub ascends : lowIn before ≤ r .register
   pub unopened : openedIn before ≡ 0
+  pub worker : r .worker ≡ 0
   pub named : r .register < barrierCount
   pub least : 1 ≤ r .number
   pub most : r .number ≤ 8
@@ -44,7 +45,7 @@ unfolding known rowIn
 barrier-no-step r e = ap known (eqb-true (r .op) 1 e)
 
 -- of five tests none holds
-none-of : (a b c d e : Bool) → a || b || c || d || e ≡ false → (a ≡ false) × (b ≡ false) × (c ≡ false) × (d ≡ false) × (e ≡ false)
+pub none-of : (a b c d e : Bool) → a || b || c || d || e ≡ false → (a ≡ false) × (b ≡ false) × (c ≡ false) × (d ≡ false) × (e ≡ false)
 none-of true b c d e h = absurd (true≢false h)
 none-of false true c d e h = absurd (true≢false h)
 none-of false false true d e h = absurd (true≢false h)
@@ -65,6 +66,7 @@ barrier-taken before r b e =
       noStep = barrier-no-step r b;
       ascends = ltb-false _ _ (sym (reaches isBarrier (λ q. q .register) (r .register) before) ∙ t .0);
       unopened = let h : openedIn before ≤ 0 = ltb-false _ _ (sym (picks isStep (λ q. q .worker) before) ∙ t .1) in omega arith;
+      worker = eqb-true (r .worker) 0 (not-so _ (t .2));
       named = leb-false _ _ (t .3);
       least = ltb-false _ _ (or-left (ltb (r .number) 1) (ltb 8 (r .number)) (t .4));
       most = ltb-false _ _ (or-right (ltb (r .number) 1) (t .4));

@@ -1,6 +1,6 @@
 -- Document 01, "Plan file": records of 7 bytes, the table of steps, and the plan that a file holds.
 use Prim.Native.Nat.{ℕ, zero, suc, _+_, _*_, _/_}
-use mathlib.Core.Bool.{Bool, true, false, cond, _&&_}
+use mathlib.Core.Bool.{Bool, true, false, cond, _&&_, _||_}
 use mathlib.Core.List.{List, [], _∷_, map}
 use mathlib.Core.Option.{Option, none, some}
 use lib.Dec.{leb, eqb}
@@ -16,6 +16,10 @@ recordWidth = 7
 
 abbrev pub planMark : ℕ
 planMark = word 0x4D 0x50
+
+-- the longest file: a plan record, 8 barrier records, and 128 steps of each of 8 workers
+abbrev pub fileLimit : ℕ
+fileLimit = 7231
 
 pub record Record : Type 0 where
   pub mark : ℕ
@@ -114,6 +118,10 @@ isBarrier r = eqb (r .op) 1
 
 abbrev pub isStep : Record → Bool
 isStep r = known (r .op)
+
+-- "21, 22: skip the next k steps if register is zero, is not zero"
+abbrev pub isSkip : ℕ → Bool
+isSkip o = eqb o 21 || eqb o 22
 
 abbrev pub isStepOf : ℕ → Record → Bool
 isStepOf w r = isStep r && eqb (r .worker) w

@@ -8,5 +8,7 @@ pub mod Turns
 pub mod RoundRun
 pub mod Report
 pub mod Calls
+pub mod WellFormed
+pub mod Conditions
 pub mod Listing
 pub mod Demands

@@ -5,7 +5,7 @@ use mathlib.Core.List.{List, [], _∷_, _++_}
 use mathlib.Core.Option.{Option, none, some}
 use lib.Dec.{leb, ltb, eqb}
 use lib.ListN.{length}
-use Rattle.protocol.specs.Format.{Record, Row, records, recordWidth, planMark, rowOf, known, isBarrier, isStep, workersIn, stepsIn, barrierCount}
+use Rattle.protocol.specs.Format.{Record, Row, records, recordWidth, fileLimit, planMark, rowOf, known, isBarrier, isStep, isSkip, workersIn, stepsIn, barrierCount}
 
 pub data Refusal : Type 0 where
   badLength badMark badPlan badBarrier badWorker badOp badOperand tooManySteps noSize skipTooFar : Refusal
@@ -61,7 +61,7 @@ outside least most k = ltb k least || ltb most k
 
 -- "1, file length 0, not a multiple of 7, or above 7,231"
 unfoldable pub lengthRule : ℕ → Rule
-lengthRule bytes = refuseIf (eqb bytes 0 || not (eqb (bytes % recordWidth) 0) || ltb 7231 bytes) badLength holds
+lengthRule bytes = refuseIf (eqb bytes 0 || not (eqb (bytes % recordWidth) 0) || ltb fileLimit bytes) badLength holds
 
 -- "3 first record isn't a plan record within its limits": "op 0, worker byte = count of workers n (1 to 8), register 0, number 0"
 unfoldable pub planRule : Record → Rule
@@ -118,7 +118,7 @@ recordRule (q ∷ qs) r = refuseIf (not (eqb (r .mark) planMark)) badMark (later
 unfoldable pub skipRule : Record → List Record → Rule
 skipRule r behind =
     refuseIf
-    ((eqb (r .op) 21 || eqb (r .op) 22) && ltb (length (stepsIn behind (r .worker))) (r .number))
+    (isSkip (r .op) && ltb (length (stepsIn behind (r .worker))) (r .number))
     skipTooFar
     holds
 

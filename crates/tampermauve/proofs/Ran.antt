@@ -11,7 +11,6 @@ use Rattle.protocol.specs.Refusals.{Verdict, accepted, refused, codeOf, check}
 use Rattle.protocol.specs.Turns.{workersOf}
 use Rattle.protocol.specs.Calls.{Buffers, Outcome, buffersOf, misfit, namesNobody, turnLimit, playedFrom, outcomeOf, runVerdict, run}
 use Rattle.protocol.specs.Demands.{Demand3Bytes}
-use Rattle.protocol.proofs.Accepted.{sound-file}
 use Rattle.protocol.proofs.Bytes.{demand3-bytes}
 use Rattle.tampermauve.specs.Run.{verdictBy, Ran}
 use Rattle.tampermauve.proofs.Admitting.{some-number, none-refused}
@@ -56,7 +55,7 @@ module _ (file turns : List ℕ) (b : Buffers) where
       carried : r ≡ 0 → Demand3Bytes (planOf file) (b .memory) turns after
       carried z =
           subst⁻¹ (λ (left : Buffers). Demand3Bytes (planOf file) (b .memory) turns left) (ap (λ (o : Outcome). o .buffers) same)
-          (demand3-bytes file turns b (verdict z) (sound-file file (passed (sym returned-code ∙ (sym (ap (λ (o : Outcome). o .returned) same) ∙ z)) .file)))
+          (demand3-bytes file turns b (verdict z))
 
   pub refusal : (r : ℕ) → r ≡ decided → (r ≡ 0 → ⊥) → _≡_ {A = Outcome} (record { returned = r; buffers = b }) (run file turns b)
   unfolding run runVerdict

@@ -2,7 +2,7 @@ use borrow.Author.Needs.{needs}
 use Rattle.tampermauve.specs.Run.{lent}
 use Rattle.tampermauve.proofs.Ran.{ran, refusal, acceptance}
 use Rattle.tampermauve.proofs.Left.{ends, left-same}
-use Rattle.tampermauve.proofs.Entering.{none-refused, fitting, ok, workers-right, playing}
+use Rattle.tampermauve.proofs.Entering.{none-refused, fits, ok, workers-right, playing}
 use Rattle.tampermauve.proofs.tampermauve_run.Statement.{statement}
 use Rattle.tampermauve.proofs.tampermauve_run.Tie as tie
 
@@ -27,7 +27,7 @@ close-buffers-requires c κs =
     let z = c .before .before .before .before .before .before .before .before .before .before .before .before .before .before .before .before .before .before .before .before .if1 .left in
     ends (a .file .now) (a .turns .now) (a .memory .now) (ok (a .file .now) (a .turns .now) (lent (a .memory .now) (a .log .now) (a .report .now) (a .work .now)) _ h z) (c .before .before .before .before .before .before .before .before .before .before .before .before .play .result) _
     (workers-right (a .file .now) (a .turns .now) (lent (a .memory .now) (a .log .now) (a .report .now) (a .work .now)) _ h z) (c .before .before .before .before .before .before .before .before .before .before .before .before .play .ensures)
-    (fitting (a .file .now) (a .turns .now) (lent (a .memory .now) (a .log .now) (a .report .now) (a .work .now)) _ h z .report)
+    (fits (a .file .now) (a .turns .now) (lent (a .memory .now) (a .log .now) (a .report .now) (a .work .now)) _ h z .report)
 
 same-length : tie.Need-same-length
 same-length c = search needs

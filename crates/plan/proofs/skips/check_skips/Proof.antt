@@ -3,10 +3,10 @@ use borrow.Author.Needs.{needs}
 use Prim.Native.Nat.{ℕ, _-_, _<_, _≤_}
 use mathlib.Core.Bool.{true, false}
 use mathlib.Core.Path.{_≡_, ap, _∙_, sym, subst⁻¹}
-use Rattle.protocol.specs.Format.{recordsFrom}
+use Rattle.protocol.specs.Format.{recordsFrom, isSkip}
 use Rattle.protocol.specs.Refusals.{checkSkips}
 use Rattle.plan.specs.Reading.{before}
-use Rattle.plan.specs.Skipping.{isSkip, tooFar}
+use Rattle.plan.specs.Skipping.{tooFar}
 use Rattle.plan.proofs.Readings.{Body}
 use Rattle.plan.proofs.Skipped.{worker-below, skips-next}
 use Rattle.plan.proofs.skips.check_skips.Statement.{statement}

@@ -1,0 +1,327 @@
+-- The rule of a record stands for the record's tests: it names the first that is due.
+use Prim.Native.Nat.{ℕ, zero, suc, _<_, _≤_}
+use mathlib.Core.Bool.{Bool, true, false, cond, not, _&&_, _||_, false≢true}
+use mathlib.Core.Path.{_≡_, refl, sym, ap, _∙_, subst, subst⁻¹}
+use mathlib.Core.Logic.{_⊎_, inl, inr, ⊎-elim}
+use mathlib.Core.List.{List, [], _∷_, _++_}
+use mathlib.Core.Option.{Option, none, some}
+use native.Mathlib.Omega.{arith}
+use lib.Dec.{leb, ltb, eqb}
+use lib.ListN.{length, take, List·getD-append}
+use lib.Seq.{getD-append-seam, take-append-seam}
+use borrow.Author.Tests.{ltb-true, ltb-false, leb-true, leb-false, eqb-true, eqb-false, not-true, not-false, lt-ltb, le-ltb, le-leb, lt-leb, eq-eqb}
+use Rattle.protocol.specs.Format.{Record, Row, planMark, rowIn, rowOf, known, isBarrier, isStep, workersIn, stepsIn, barrierCount}
+use Rattle.protocol.specs.Refusals.{Refusal, badMark, badPlan, badBarrier, badWorker, badOp, badOperand, tooManySteps, noSize, Verdict, accepted, Rule, holds, refuseIf, ruled, anyOf, outside, planRule, barrierRule, operandsOutside, stepRule, laterRule, recordRule}
+use Rattle.protocol.specs.WellFormed.{blank, recordAt, PlanRecord, BarrierRecord}
+use Rattle.protocol.specs.Conditions.{NoMark, Before, BarrierAmiss, UnknownOp, WorkerAmiss, StepBeyond, OperandOutside, SizeMissing, Test, test, testsOf, recordTests, FirstDue}
+use Rattle.protocol.proofs.Records.{one, or-left, or-right, and-left, and-right, names}
+use Rattle.protocol.proofs.Taken.{barrier-no-step, none-of}
+use Rattle.protocol.proofs.Accepted.{planTest, plan-record}
+
+pub none-left : FirstDue [] accepted
+unfolding FirstDue
+none-left = refl
+
+-- a rule of index i stands for some tests: whatever tests and verdict come behind, the first that is due decides
+pub record Covers (ts : List Test) (rule : Rule) (i : ℕ) : Type 1 where
+  pub decides : (rest : List Test) (next : Verdict) → FirstDue rest next → FirstDue (ts ++ rest) (ruled rule i next)
+
+pub covers-none : (i : ℕ) → Covers [] holds i
+covers-none i = record { decides = λ rest next h. h }
+
+-- a test by a Bool, which says whether it is due; where it is not, the tests behind it decide
+pub covers : (b : Bool) (f : Refusal) (next : Rule) {i : ℕ} {c : Type 0} {ts : List Test}
+    → (b ≡ true → c) → (b ≡ false → c → ⊥) → (b ≡ false → Covers ts next i) → Covers (test f i c ∷ ts) (refuseIf b f next) i
+unfolding FirstDue
+covers true f next due not-due more = record { decides = λ rest v h. inl (due refl, refl) }
+covers false f next due not-due more = record { decides = λ rest v h. inr (not-due refl, more refl .decides rest v h) }
+
+-- a test that is not due, whatever the rule
+pub passes-by : {f : Refusal} {c : Type 0} {ts : List Test} {rule : Rule} {i : ℕ} → (c → ⊥) → Covers ts rule i → Covers (test f i c ∷ ts) rule i
+unfolding FirstDue
+passes-by not-due more = record { decides = λ rest v h. inr (not-due, more .decides rest v h) }
+
+-- ---- what stands before a record
+
+pub any-there : (t : Record → Bool) (rs : List Record) → anyOf t rs ≡ true → (k : ℕ) × (k < length rs) × (t (recordAt rs k) ≡ true)
+unfolding anyOf
+any-there t [] e = absurd (false≢true e)
+any-there t (r ∷ rs) e = go (t r) refl (λ q. any-there t rs q) e
+  where
+    go : (b : Bool) → t r ≡ b → (anyOf t rs ≡ true → (k : ℕ) × (k < length rs) × (t (recordAt rs k) ≡ true))
+        → b || anyOf t rs ≡ true → (k : ℕ) × (k < suc (length rs)) × (t (recordAt (r ∷ rs) k) ≡ true)
+    go true p ih q = (0, omega arith, p)
+    go false p ih q = let h = ih q in (suc (h .0), omega (arith, h .1), h .2)
+
+pub any-none : (t : Record → Bool) (rs : List Record) → anyOf t rs ≡ false → (k : ℕ) → k < length rs → t (recordAt rs k) ≡ false
+unfolding anyOf
+any-none t [] e k h = absurd (omega arith)
+any-none t (r ∷ rs) e zero h = or-left (t r) (anyOf t rs) e
+any-none t (r ∷ rs) e (suc k) h = any-none t rs (or-right (t r) e) k (omega arith)
+
+-- ---- one record: its rule stands for its tests
+
+any-of : (a b c d e : Bool) → a || b || c || d || e ≡ true → (a ≡ true) ⊎ ((b ≡ true) ⊎ ((c ≡ true) ⊎ ((d ≡ true) ⊎ (e ≡ true))))
+any-of true b c d e h = inl refl
+any-of false true c d e h = inr (inl refl)
+any-of false false true d e h = inr (inr (inl refl))
+any-of false false false true e h = inr (inr (inr (inl refl)))
+any-of false false false false e h = inr (inr (inr (inr h)))
+
+pub or-cases : (a b : Bool) → a || b ≡ true → (a ≡ true) ⊎ (b ≡ true)
+or-cases true b e = inl refl
+or-cases false b e = inr e
+
+and-true : {a b : Bool} → a ≡ true → b ≡ true → a && b ≡ true
+and-true {a} {b} p q = ap (λ (t : Bool). t && b) p ∙ q
+
+pub known-row : (o : ℕ) → known o ≡ true → (x : Row) × (rowOf o ≡ some x)
+unfolding known
+known-row o e = go (rowOf o) refl e
+  where
+    go : (x : Option Row) → rowOf o ≡ x → elim x [ none ↦ false | some y ↦ true ] ≡ true → (y : Row) × (rowOf o ≡ some y)
+    go none p q = absurd (false≢true q)
+    go (some y) p q = (y, p)
+
+pub row-known : (o : ℕ) (x : Row) → rowOf o ≡ some x → known o ≡ true
+unfolding known
+row-known o x e = ap (λ (y : Option Row). elim y [ none ↦ false | some z ↦ true ]) e
+
+-- operands that are in the ranges of their row
+pub operands-inside : (r : Record) (x : Row) → rowOf (r .op) ≡ some x → operandsOutside (rowOf (r .op)) (r .register) (r .number) ≡ false
+    → (r .register ≤ x .registers) × (x .least ≤ r .number) × (r .number ≤ x .most)
+unfolding operandsOutside
+operands-inside r x row e =
+    let t = ap (λ (o : Option Row). operandsOutside o (r .register) (r .number)) (sym row) ∙ e in
+    let u = or-right (ltb (x .registers) (r .register)) t in (
+      ltb-false (x .registers) (r .register) (or-left (ltb (x .registers) (r .register)) _ t),
+      ltb-false (r .number) (x .least) (or-left (ltb (r .number) (x .least)) _ u),
+      ltb-false (x .most) (r .number) (or-right (ltb (r .number) (x .least)) u),
+    )
+
+mark-due : (r : Record) → not (eqb (r .mark) planMark) ≡ true → NoMark r
+mark-due r e = eqb-false (r .mark) planMark (not-true _ e)
+
+mark-right : (r : Record) → not (eqb (r .mark) planMark) ≡ false → NoMark r → ⊥
+mark-right r e amiss = amiss (eqb-true (r .mark) planMark (not-false _ e))
+
+-- the tests of steps, behind those of a record that is none
+module _ (rs : List Record) (i : ℕ) (r : Record) where
+  -- the last five of a record's tests
+  abbrev stepTests : List Test
+  stepTests =
+      test badOp i (UnknownOp r)
+      ∷ test badWorker i (WorkerAmiss rs i r)
+      ∷ test tooManySteps i (StepBeyond rs i r)
+      ∷ test badOperand i (OperandOutside r)
+      ∷ test noSize i (SizeMissing rs i r)
+      ∷ []
+
+  no-step : isStep r ≡ false → (UnknownOp r → ⊥) → (r .op ≡ 37 → ⊥) → Covers stepTests holds i
+  no-step unknown named other =
+      passes-by named
+      (passes-by (λ (d : WorkerAmiss rs i r). false≢true (sym unknown ∙ d .0))
+      (passes-by (λ (d : StepBeyond rs i r). false≢true (sym unknown ∙ d .0))
+      (passes-by (λ (d : OperandOutside r). false≢true (sym unknown ∙ row-known (r .op) (d .0) (d .1)))
+      (passes-by (λ (d : SizeMissing rs i r). other (d .0)) (covers-none i)))))
+
+-- the first record
+first-covers : (behind : List Record) (r : Record) → Covers (testsOf (r ∷ behind) 0 r) (recordRule [] r) 0
+unfolding recordRule planRule known rowIn
+first-covers behind r =
+    covers (not (eqb (r .mark) planMark)) badMark (planRule r) (mark-due r) (mark-right r)
+    (λ m.
+    covers (planTest r) badPlan holds
+    (λ e. inl (refl, λ p. absurd (false≢true (sym (whole p) ∙ e))))
+    (λ e. ⊎-elim (λ d. d .1 (plan-record r (ap (λ (b : Bool). refuseIf b badPlan holds) e))) (λ d. let h = d .0 in omega arith))
+    (λ e.
+    let op = plan-record r (ap (λ (b : Bool). refuseIf b badPlan holds) e) .op in
+    passes-by (λ (d : BarrierAmiss (r ∷ behind) 0 r). false≢true (sym (ap (λ (o : ℕ). eqb o 1) op) ∙ d .0))
+    (no-step (r ∷ behind) 0 r (ap known op) (λ d. d .0 op) (λ q. let z = sym op ∙ q in omega arith))))
+  where
+    whole : PlanRecord r → planTest r ≡ false
+    whole p =
+        simp (eq-eqb _ _ (p .op), eq-eqb _ _ (p .register), eq-eqb _ _ (p .number), le-ltb (r .worker) 1 (p .least), le-ltb 8 (r .worker) (p .most))
+
+-- a later record r, behind q ∷ qs
+module _ (q : Record) (qs behind : List Record) (r : Record) where
+  abbrev taken : List Record
+  taken = q ∷ qs
+
+  abbrev all : List Record
+  all = (q ∷ qs) ++ (r ∷ behind)
+
+  abbrev index : ℕ
+  index = length (q ∷ qs)
+
+  found : (t : Record → Bool) (P : Record → Type 0) → ((p : Record) → t p ≡ true → P p) → anyOf t taken ≡ true → Before all index P
+  found t P f e =
+      let h = any-there t taken e in
+      (h .0, h .1, subst⁻¹ P (List·getD-append taken (r ∷ behind) blank (h .0) (h .1)) (f _ (h .2)))
+
+  missing : (t : Record → Bool) (P : Record → Type 0) → ((p : Record) → P p → t p ≡ true) → anyOf t taken ≡ false → Before all index P → ⊥
+  missing t P f e h =
+      false≢true
+      (sym (any-none t taken e (h .0) (h .1)) ∙ f _ (subst P (List·getD-append taken (r ∷ behind) blank (h .0) (h .1)) (h .2)))
+
+  -- a barrier record
+  abbrev higher : Record → Bool
+  higher p = isBarrier p && leb (r .register) (p .register)
+
+  abbrev barrierTest : Bool
+  barrierTest =
+      anyOf higher taken || anyOf isStep taken || not (eqb (r .worker) 0) || leb barrierCount (r .register) || outside 1 8 (r .number)
+
+  in-range : BarrierRecord r → not (eqb (r .worker) 0) || (leb barrierCount (r .register) || outside 1 8 (r .number)) ≡ false
+  in-range b =
+      simp (eq-eqb _ _ (b .worker), lt-leb barrierCount (r .register) (b .barrier), le-ltb (r .number) 1 (b .least), le-ltb 8 (r .number) (b .most))
+
+  abbrev Higher : Record → Type 0
+  Higher p = (isBarrier p ≡ true) × (r .register ≤ p .register)
+
+  higher-due : (p : Record) → higher p ≡ true → Higher p
+  higher-due p e = (and-left (isBarrier p) _ e, leb-true _ _ (and-right (isBarrier p) _ e))
+
+  higher-test : (p : Record) → Higher p → higher p ≡ true
+  higher-test p h = and-true (h .0) (le-leb _ _ (h .1))
+
+  barrier-due : isBarrier r ≡ true → barrierTest ≡ true → BarrierAmiss all index r
+  barrier-due b e = (
+    b,
+    ⊎-elim (λ h. inl (found higher Higher higher-due h))
+        (⊎-elim (λ h. inr (inl (found isStep (λ p. isStep p ≡ true) (λ p s. s) h)))
+        (λ h. inr (inr (λ w. absurd (false≢true (sym (in-range w) ∙ range h))))))
+        (any-of (anyOf higher taken) (anyOf isStep taken) (not (eqb (r .worker) 0)) (leb barrierCount (r .register)) (outside 1 8 (r .number)) e),
+  )
+    where
+      range : (not (eqb (r .worker) 0) ≡ true) ⊎ ((leb barrierCount (r .register) ≡ true) ⊎ (outside 1 8 (r .number) ≡ true))
+          → not (eqb (r .worker) 0) || (leb barrierCount (r .register) || outside 1 8 (r .number)) ≡ true
+      range = go (not (eqb (r .worker) 0)) (leb barrierCount (r .register)) (outside 1 8 (r .number))
+        where
+          go : (a b c : Bool) → (a ≡ true) ⊎ ((b ≡ true) ⊎ (c ≡ true)) → a || (b || c) ≡ true
+          go true b c h = refl
+          go false true c h = refl
+          go false false c h = ⊎-elim (λ e. absurd (false≢true e)) (⊎-elim (λ e. absurd (false≢true e)) (λ e. e)) h
+
+  barrier-right : isBarrier r ≡ true → barrierTest ≡ false → BarrierAmiss all index r → ⊥
+  barrier-right b e h =
+      let t = none-of (anyOf higher taken) (anyOf isStep taken) (not (eqb (r .worker) 0)) (leb barrierCount (r .register)) (outside 1 8 (r .number)) e in
+      ⊎-elim (missing higher Higher higher-test (t .0))
+      (⊎-elim (missing isStep (λ p. isStep p ≡ true) (λ p s. s) (t .1))
+      (λ amiss.
+      amiss
+      (record {
+        op = eqb-true (r .op) 1 b;
+        worker = eqb-true (r .worker) 0 (not-false _ (t .2));
+        barrier = leb-false _ _ (t .3);
+        least = ltb-false _ _ (or-left (ltb (r .number) 1) (ltb 8 (r .number)) (t .4));
+        most = ltb-false _ _ (or-right (ltb (r .number) 1) (t .4));
+      })))
+      (h .1)
+
+  -- a step
+  abbrev lower : Record → Bool
+  lower p = isStep p && ltb (r .worker) (p .worker)
+
+  abbrev Lower : Record → Type 0
+  Lower p = (isStep p ≡ true) × (r .worker < p .worker)
+
+  worker-due : isStep r ≡ true → leb (workersIn taken) (r .worker) || anyOf lower taken ≡ true → WorkerAmiss all index r
+  worker-due s e = (
+    s,
+    ⊎-elim (λ h. inl (leb-true (workersIn taken) (r .worker) h))
+        (λ h. inr (found lower Lower (λ p l. (and-left (isStep p) _ l, ltb-true _ _ (and-right (isStep p) _ l))) h))
+        (or-cases (leb (workersIn taken) (r .worker)) (anyOf lower taken) e),
+  )
+
+  worker-right : leb (workersIn taken) (r .worker) || anyOf lower taken ≡ false → WorkerAmiss all index r → ⊥
+  worker-right e h =
+      ⊎-elim
+      (λ l. let m = leb-false (workersIn taken) (r .worker) (or-left (leb (workersIn taken) (r .worker)) (anyOf lower taken) e) in omega arith)
+      (missing lower Lower (λ p l. and-true (l .0) (lt-ltb _ _ (l .1))) (or-right (leb (workersIn taken) (r .worker)) e))
+      (h .1)
+
+  counted : length (stepsIn taken (r .worker)) ≡ length (stepsIn (take index all) (r .worker))
+  counted = ap (λ (rs : List Record). length (stepsIn rs (r .worker))) (sym (take-append-seam taken (r ∷ behind)))
+
+  operand-due : isStep r ≡ true → operandsOutside (rowOf (r .op)) (r .register) (r .number) ≡ true → OperandOutside r
+  unfolding operandsOutside
+  operand-due s e =
+      let x = known-row (r .op) s in
+      let t = ap (λ (o : Option Row). operandsOutside o (r .register) (r .number)) (sym (x .1)) ∙ e in (
+        x .0,
+        x .1,
+        ⊎-elim (λ h. inl (ltb-true _ _ h))
+            (λ h. inr (⊎-elim (λ l. inl (ltb-true _ _ l)) (λ l. inr (ltb-true _ _ l)) (or-cases (ltb (r .number) (x .0 .least)) _ h)))
+            (or-cases (ltb (x .0 .registers) (r .register)) (outside (x .0 .least) (x .0 .most) (r .number)) t),
+      )
+
+  operand-right : operandsOutside (rowOf (r .op)) (r .register) (r .number) ≡ false → OperandOutside r → ⊥
+  operand-right e h =
+      let t = operands-inside r (h .0) (h .1) e in
+      let register = t .0 in
+      let least = t .1 in
+      let most = t .2 in
+      ⊎-elim (λ l. omega arith) (⊎-elim (λ l. omega arith) (λ l. omega arith)) (h .2)
+
+  abbrev Sizes : Record → Type 0
+  Sizes p = (isBarrier p ≡ true) × (p .register ≡ r .number)
+
+  size-due : eqb (r .op) 37 && not (anyOf (names (r .number)) taken) ≡ true → SizeMissing all index r
+  size-due e = (
+    eqb-true (r .op) 37 (and-left (eqb (r .op) 37) _ e),
+    missing (names (r .number)) Sizes (λ p h. and-true (h .0) (eq-eqb _ _ (h .1))) (not-true _ (and-right (eqb (r .op) 37) _ e)),
+  )
+
+  size-right : eqb (r .op) 37 && not (anyOf (names (r .number)) taken) ≡ false → SizeMissing all index r → ⊥
+  size-right e h =
+      h .1
+      (found (names (r .number)) Sizes (λ p n. (and-left (isBarrier p) _ n, eqb-true _ _ (and-right (isBarrier p) _ n)))
+      (not-false _ (sym (ap (λ (b : Bool). b && not (anyOf (names (r .number)) taken)) (eq-eqb _ _ (h .0))) ∙ e)))
+
+  steps-cover : isBarrier r ≡ false → eqb (r .op) 0 ≡ false → Covers (stepTests all index r) (stepRule taken r) index
+  unfolding stepRule
+  steps-cover b z =
+      covers (not (known (r .op))) badOp _ (λ e. (eqb-false (r .op) 0 z, b, not-true _ e)) (λ e d. absurd (false≢true (sym (d .2) ∙ not-false _ e)))
+      (λ e.
+      let s : isStep r ≡ true = not-false _ e in
+      covers (leb (workersIn taken) (r .worker) || anyOf lower taken) badWorker _ (worker-due s) worker-right
+      (λ w.
+      covers (leb 128 (length (stepsIn taken (r .worker)))) tooManySteps _
+      (λ l. (s, omega (arith, leb-true 128 (length (stepsIn taken (r .worker))) l, counted)))
+      (λ l d. omega (arith, leb-false 128 (length (stepsIn taken (r .worker))) l, counted, d .1))
+      (λ l.
+      covers (operandsOutside (rowOf (r .op)) (r .register) (r .number)) badOperand _ (operand-due s) operand-right
+      (λ o.
+      covers (eqb (r .op) 37 && not (anyOf (names (r .number)) taken)) noSize holds size-due size-right
+      (λ m. covers-none index)))))
+
+  later-covers : Covers (testsOf all index r) (recordRule taken r) index
+  unfolding recordRule laterRule barrierRule known rowIn
+  later-covers =
+      covers (not (eqb (r .mark) planMark)) badMark (laterRule taken r) (mark-due r) (mark-right r)
+      (λ m.
+      covers (eqb (r .op) 0) badPlan _
+      (λ e. inr (omega arith, eqb-true (r .op) 0 e))
+      (λ e. ⊎-elim (λ d. let h = d .0 in omega arith) (λ d. eqb-false (r .op) 0 e (d .1)))
+      (λ z. go (isBarrier r) refl z))
+    where
+      go : (b : Bool) → isBarrier r ≡ b → eqb (r .op) 0 ≡ false
+          → Covers (test badBarrier index (BarrierAmiss all index r) ∷ stepTests all index r) (cond b (barrierRule taken r) (stepRule taken r)) index
+      go true b z =
+          covers barrierTest badBarrier holds (barrier-due b) (barrier-right b)
+          (λ e. no-step all index r (barrier-no-step r b) (λ d. absurd (false≢true (sym (d .1) ∙ b))) (λ o. let one = eqb-true (r .op) 1 b in omega arith))
+      go false b z =
+          passes-by (λ (d : BarrierAmiss all index r). false≢true (sym b ∙ d .0)) (steps-cover b z)
+
+-- any record
+pub record-covers : (before behind : List Record) (r : Record)
+    → Covers (recordTests (before ++ (r ∷ behind)) (length before)) (recordRule before r) (length before)
+record-covers before behind r =
+    subst⁻¹ (λ (p : Record). Covers (testsOf (before ++ (r ∷ behind)) (length before) p) (recordRule before r) (length before))
+    (getD-append-seam before r behind blank)
+    (go before)
+  where
+    go : (qs : List Record) → Covers (testsOf (qs ++ (r ∷ behind)) (length qs) r) (recordRule qs r) (length qs)
+    go [] = first-covers behind r
+    go (q ∷ qs) = later-covers q qs behind r

@@ -1,0 +1,148 @@
+-- What the records of an accepted file are: formed as `WellFormed` says.
+use Prim.Native.Nat.{ℕ, zero, suc, _<_, _≤_}
+use mathlib.Core.Bool.{Bool, true, false, not, _&&_, false≢true}
+use mathlib.Core.Path.{_≡_, refl, sym, ap, _∙_, subst, subst⁻¹}
+use mathlib.Core.Logic.{_⊎_, inl, inr, ⊎-elim}
+use mathlib.Core.List.{List, [], _∷_, _++_, append-assoc, append-nil}
+use native.Mathlib.Omega.{arith}
+use lib.Dec.{leb, eqb}
+use lib.ListN.{length, take, length-take}
+use lib.Seq.{getD-take}
+use borrow.Author.Tests.{ltb-false, leb-false, le-ltb, eqb-true, not-false, eq-eqb}
+use Rattle.protocol.specs.Format.{Record, planMark, isBarrier, isStep, isSkip, workersIn}
+use Rattle.protocol.specs.Refusals.{badMark, accepted, holds, anyOf, planRule, laterRule, recordRule, skipTooFar, skipRule, checkRecords}
+use Rattle.protocol.specs.WellFormed.{blank, recordAt, PlanRecord, BarrierRecord, StepRecord, stepsBehind, FormedRecords}
+use Rattle.protocol.proofs.Records.{one, and-left, and-right, reaches, picks, openedIn, names}
+use Rattle.protocol.proofs.Taken.{passes, BarrierTaken, StepTaken, later-taken}
+use Rattle.protocol.proofs.Accepted.{accepts, plan-record, accepted-records}
+use Rattle.protocol.proofs.Covered.{any-there, any-none, known-row, operands-inside}
+
+-- ---- what an accepted file's records are: each rule holds, of the records before its own
+
+rules-hold : (before rest : List Record) → checkRecords before rest ≡ accepted → (i : ℕ) → i < length rest
+    → recordRule (before ++ take i rest) (recordAt rest i) ≡ holds
+unfolding checkRecords
+rules-hold before [] e i h = absurd (omega arith)
+rules-hold before (r ∷ rest) e zero h =
+    subst⁻¹ (λ (rs : List Record). recordRule rs r ≡ holds) (append-nil before) (accepts (recordRule before r) (length before) _ e .0)
+rules-hold before (r ∷ rest) e (suc i) h =
+    subst (λ (rs : List Record). recordRule rs (recordAt rest i) ≡ holds) (append-assoc before (one r) (take i rest))
+    (rules-hold (before ++ one r) rest (accepts (recordRule before r) (length before) _ e .1) i (omega arith))
+
+rule-mark : (before : List Record) (r : Record) → recordRule before r ≡ holds → r .mark ≡ planMark
+unfolding recordRule
+rule-mark [] r e = eqb-true (r .mark) planMark (not-false _ (passes (not (eqb (r .mark) planMark)) badMark (planRule r) e .0))
+rule-mark (q ∷ qs) r e = eqb-true (r .mark) planMark (not-false _ (passes (not (eqb (r .mark) planMark)) badMark (laterRule (q ∷ qs) r) e .0))
+
+barrier-record : (before : List Record) (r : Record) → BarrierTaken before r → BarrierRecord r
+barrier-record before r t =
+    record { op = eqb-true (r .op) 1 (t .barrier); worker = t .worker; barrier = t .named; least = t .least; most = t .most }
+
+step-record : (before : List Record) (r : Record) → StepTaken before r → StepRecord (workersIn before) r
+step-record before r t =
+    let x = known-row (r .op) (t .step) in
+    let inside = operands-inside r (x .0) (x .1) (t .inside) in
+    record { row = x .0; ofTable = x .1; worker = t .below; register = inside .0; least = inside .1; most = inside .2 }
+
+module _ (q : Record) (qs : List Record) (ok : checkRecords [] (q ∷ qs) ≡ accepted) where
+  abbrev rs : List Record
+  rs = q ∷ qs
+
+  first-rule : planRule q ≡ holds
+  unfolding recordRule
+  first-rule = passes (not (eqb (q .mark) planMark)) badMark (planRule q) (rules-hold [] rs ok 0 (omega arith)) .1
+
+  taken : (i : ℕ) → 1 ≤ i → i < length rs → BarrierTaken (take i rs) (recordAt rs i) ⊎ StepTaken (take i rs) (recordAt rs i)
+  unfolding recordRule
+  taken zero l h = absurd (omega arith)
+  taken (suc i) l h =
+      later-taken (q ∷ take i qs) (recordAt qs i)
+      (passes (not (eqb (recordAt qs i .mark) planMark)) badMark (laterRule (q ∷ take i qs) (recordAt qs i)) (rules-hold [] rs ok (suc i) h) .1)
+
+  taken-barrier : (i : ℕ) → 1 ≤ i → i < length rs → isBarrier (recordAt rs i) ≡ true → BarrierTaken (take i rs) (recordAt rs i)
+  taken-barrier i l h b = ⊎-elim (λ t. t) (λ t. absurd (false≢true (sym (t .noBarrier) ∙ b))) (taken i l h)
+
+  taken-step : (i : ℕ) → 1 ≤ i → i < length rs → isStep (recordAt rs i) ≡ true → StepTaken (take i rs) (recordAt rs i)
+  taken-step i l h s = ⊎-elim (λ t. absurd (false≢true (sym (t .noStep) ∙ s))) (λ t. t) (taken i l h)
+
+  within : (i j : ℕ) → i < j → j < length rs → i < length (take j rs)
+  within i j l h = let e = length-take j rs in omega arith
+
+  -- a test that holds of no record before record j
+  none-before : (t : Record → Bool) (i j : ℕ) → i < j → j < length rs → anyOf t (take j rs) ≡ false → t (recordAt rs i) ≡ false
+  none-before t i j l h e =
+      subst (λ (r : Record). t r ≡ false) (getD-take j rs i blank l) (any-none t (take j rs) e i (within i j l h))
+
+  not-both : (a b : Bool) → a && b ≡ false → a ≡ true → b ≡ false
+  not-both a b e h = sym (ap (λ (t : Bool). t && b) h) ∙ e
+
+  ascending : (i j : ℕ) → i < j → j < length rs → isBarrier (recordAt rs i) ≡ true → isBarrier (recordAt rs j) ≡ true
+      → recordAt rs i .register < recordAt rs j .register
+  ascending i j l h b c =
+      let t = taken-barrier j (omega arith) h c in
+      leb-false _ _
+      (not-both (isBarrier (recordAt rs i)) _
+      (none-before (λ p. isBarrier p && leb (recordAt rs j .register) (p .register)) i j l h
+      (reaches isBarrier (λ p. p .register) (recordAt rs j .register) (take j rs) ∙ le-ltb _ _ (t .ascends)))
+      b)
+
+  steps-last : (i j : ℕ) → i < j → j < length rs → isStep (recordAt rs i) ≡ true → isBarrier (recordAt rs j) ≡ true → ⊥
+  steps-last i j l h s c =
+      let t = taken-barrier j (omega arith) h c in
+      false≢true
+      (sym (none-before isStep i j l h (picks isStep (λ p. p .worker) (take j rs) ∙ le-ltb 0 (openedIn (take j rs)) (let u = t .unopened in omega arith))) ∙ s)
+
+  rising : (i j : ℕ) → i < j → j < length rs → isStep (recordAt rs i) ≡ true → isStep (recordAt rs j) ≡ true
+      → recordAt rs i .worker ≤ recordAt rs j .worker
+  rising i j l h s c =
+      let t = taken-step j (omega arith) h c in
+      let lower = leb-false (suc (recordAt rs j .worker)) (recordAt rs i .worker)
+      (not-both (isStep (recordAt rs i)) _
+      (none-before (λ p. isStep p && leb (suc (recordAt rs j .worker)) (p .worker)) i j l h
+      (reaches isStep (λ p. p .worker) (suc (recordAt rs j .worker)) (take j rs) ∙ le-ltb _ _ (t .level)))
+      s) in
+      omega arith
+
+  first-is : PlanRecord q
+  first-is = plan-record q first-rule
+
+  later : (i : ℕ) → 1 ≤ i → i < length rs → BarrierRecord (recordAt rs i) ⊎ StepRecord (workersIn rs) (recordAt rs i)
+  later zero l h = absurd (omega arith)
+  later (suc i) l h =
+      ⊎-elim (λ t. inl (barrier-record (take (suc i) rs) _ t)) (λ t. inr (step-record (take (suc i) rs) _ t)) (taken (suc i) l h)
+
+  sized : (j : ℕ) → j < length rs → recordAt rs j .op ≡ 37
+      → (i : ℕ) × (i < length rs) × (isBarrier (recordAt rs i) ≡ true) × (recordAt rs i .register ≡ recordAt rs j .number)
+  sized zero h o = absurd (let z = first-is .op in omega arith)
+  sized (suc j) h o = ⊎-elim (λ t. absurd (let z = eqb-true (recordAt rs (suc j) .op) 1 (t .barrier) in omega arith)) named (taken (suc j) (omega arith) h)
+    where
+      named : StepTaken (take (suc j) rs) (recordAt rs (suc j))
+          → (i : ℕ) × (i < length rs) × (isBarrier (recordAt rs i) ≡ true) × (recordAt rs i .register ≡ recordAt rs (suc j) .number)
+      named t =
+          let s = any-there (names (recordAt rs (suc j) .number)) (take (suc j) rs) (not-false _ (not-both (eqb (recordAt rs (suc j) .op) 37) _ (t .sized) (eq-eqb _ _ o))) in
+          let n = length-take (suc j) rs in
+          let l = s .1 in
+          let e = subst (λ (r : Record). names (recordAt rs (suc j) .number) r ≡ true) (getD-take (suc j) rs (s .0) blank (omega arith)) (s .2) in
+          (s .0, omega arith, and-left (isBarrier (recordAt rs (s .0))) _ e, omega (arith, eqb-true (recordAt rs (s .0) .register) (recordAt rs (suc j) .number) (and-right (isBarrier (recordAt rs (s .0))) _ e)))
+
+  formed-records : FormedRecords (q ∷ qs)
+  unfolding skipRule
+  formed-records =
+      let a = accepted-records rs (λ z. omega arith) ok in
+      record {
+        marked = λ i h. rule-mark (take i rs) (recordAt rs i) (rules-hold [] rs ok i h);
+        first = first-is;
+        later = later;
+        ascending = ascending;
+        stepsLast = steps-last;
+        rising = λ i j l h s c. omega (arith, rising i j l h s c);
+        few = a .read .few;
+        sized = λ j h o. let s = sized j h o in (s .0, s .1, s .2, omega (arith, s .3));
+        skips =
+            λ i h s.
+            omega (arith, ltb-false (stepsBehind rs i (recordAt rs i)) (recordAt rs i .number) (not-both (isSkip (recordAt rs i .op)) _ (passes _ skipTooFar holds (a .skips i h) .0) s));
+      }
+
+pub formed : (rs : List Record) → (length rs ≡ 0 → ⊥) → checkRecords [] rs ≡ accepted → FormedRecords rs
+formed [] n e = absurd (n refl)
+formed (q ∷ qs) n e = formed-records q qs e

@@ -1,0 +1,147 @@
+-- The verdicts are those of the first test that is due: of the check, and of a run.
+use Prim.Native.Nat.{ℕ, zero, suc, _+_, _%_, _<_, _≤_}
+use mathlib.Core.Bool.{Bool, true, false, not, _&&_, _||_, false≢true}
+use mathlib.Core.Path.{_≡_, sym, ap, _∙_, subst, subst⁻¹}
+use mathlib.Core.Logic.{inl, inr, ⊎-elim}
+use mathlib.Core.List.{List, [], _∷_, _++_, append-assoc, append-nil}
+use native.Mathlib.Omega.{arith}
+use lib.Dec.{leb, ltb, eqb}
+use lib.ListN.{length, getD, drop, length-append}
+use lib.Seq.{getD-append-seam, drop-append-add}
+use borrow.Author.Tests.{ltb-true, ltb-false, leb-true, leb-false, eqb-true, eqb-false, not-true, not-false, eq-eqb}
+use Rattle.protocol.specs.Format.{Record, fileLimit, records, planOf, isSkip, stepsIn}
+use Rattle.protocol.specs.Refusals.{badLength, skipTooFar, badBuffer, tooManyTurns, badTurn, Verdict, accepted, holds, refuseIf, lengthRule, skipRule, checkSkips, checkRecords, check}
+use Rattle.protocol.specs.Turns.{workersOf}
+use Rattle.protocol.specs.Calls.{Buffers, memorySize, logSize, reportSize, workSize, turnLimit, misfit, namesNobody, both, runVerdict}
+use Rattle.protocol.specs.WellFormed.{blank, Fitting}
+use Rattle.protocol.specs.Conditions.{LengthAmiss, SkipBeyond, Test, test, recordTests, skipTests, over, fileTests, runTests, FirstDue}
+use Rattle.protocol.proofs.Records.{one, or-false, or-left, or-right, and-left, and-right}
+use Rattle.protocol.proofs.Taken.{none-of}
+use Rattle.protocol.proofs.Accepted.{length-right, length-records}
+use Rattle.protocol.proofs.Covered.{none-left, Covers, covers-none, covers, or-cases, record-covers}
+
+-- ---- all records, then all skips
+
+skip-covers : (before behind : List Record) (r : Record)
+    → Covers (skipTests (before ++ (r ∷ behind)) (length before)) (skipRule r behind) (length before)
+unfolding skipRule
+skip-covers before behind r =
+    subst⁻¹ (λ (p : Record). Covers (test skipTooFar (length before) (SkipBeyond whole (length before) p) ∷ []) (skipRule r behind) (length before))
+    (getD-append-seam before r behind blank)
+    (covers (isSkip (r .op) && ltb (length (stepsIn behind (r .worker))) (r .number)) skipTooFar holds
+    (λ e. (and-left (isSkip (r .op)) _ e, omega (arith, ltb-true (length (stepsIn behind (r .worker))) (r .number) (and-right (isSkip (r .op)) _ e), same)))
+    (λ e d.
+    omega (
+      arith,
+      ltb-false (length (stepsIn behind (r .worker))) (r .number) (sym (ap (λ (b : Bool). b && ltb (length (stepsIn behind (r .worker))) (r .number)) (d .0)) ∙ e),
+      same,
+      d .1,
+    ))
+    (λ e. covers-none (length before)))
+  where
+    whole : List Record
+    whole = before ++ (r ∷ behind)
+
+    same : length (stepsIn behind (r .worker)) ≡ length (stepsIn (drop (suc (length before)) (before ++ (r ∷ behind))) (r .worker))
+    same =
+        ap (λ (rs : List Record). length (stepsIn rs (r .worker)))
+        (sym (ap (λ (k : ℕ). drop k (before ++ (r ∷ behind))) (let e : suc (length before) ≡ length before + 1 = omega arith in e) ∙ drop-append-add before (r ∷ behind) 1))
+
+-- one record more has been read
+next-index : (before : List Record) (r : Record) → length (before ++ one r) ≡ suc (length before)
+next-index before r = let e = length-append before (one r) in omega arith
+
+skips-first : (before rest : List Record) → FirstDue (over (skipTests (before ++ rest)) (length rest) (length before)) (checkSkips (length before) rest)
+unfolding checkSkips over
+skips-first before [] = none-left
+skips-first before (r ∷ rest) =
+    skip-covers before rest r .decides _ _
+    (subst (λ (rs : List Record). FirstDue (over (skipTests rs) (length rest) (suc (length before))) (checkSkips (suc (length before)) rest))
+    (append-assoc before (one r) rest)
+    (subst (λ (i : ℕ). FirstDue (over (skipTests (before ++ one r ++ rest)) (length rest) i) (checkSkips i rest)) (next-index before r)
+    (skips-first (before ++ one r) rest)))
+
+abbrev allTests : List Record → ℕ → ℕ → List Test
+allTests rs k i = over (recordTests rs) k i ++ over (skipTests rs) (length rs) 0
+
+records-first : (before rest : List Record) → FirstDue (allTests (before ++ rest) (length rest) (length before)) (checkRecords before rest)
+unfolding checkRecords over
+records-first before [] =
+    subst⁻¹ (λ (rs : List Record). FirstDue (over (skipTests rs) (length rs) 0) (checkSkips 0 before)) (append-nil before) (skips-first [] before)
+records-first before (r ∷ rest) =
+    record-covers before rest r .decides _ _
+    (subst (λ (rs : List Record). FirstDue (allTests rs (length rest) (suc (length before))) (checkRecords (before ++ one r) rest))
+    (append-assoc before (one r) rest)
+    (subst (λ (i : ℕ). FirstDue (allTests (before ++ one r ++ rest) (length rest) i) (checkRecords (before ++ one r) rest)) (next-index before r)
+    (records-first (before ++ one r) rest)))
+
+-- ---- a file
+
+length-covers : (file : List ℕ) → Covers (test badLength 0 (LengthAmiss file) ∷ []) (lengthRule (length file)) 0
+unfolding lengthRule
+length-covers file =
+    covers (eqb (length file) 0 || not (eqb (length file % 7) 0) || ltb fileLimit (length file)) badLength holds
+    (λ e. ⊎-elim (λ l. ⊎-elim (λ z. inl (eqb-true (length file) 0 z)) (λ m. inr (inl (eqb-false (length file % 7) 0 (not-true _ m)))) (or-cases (eqb (length file) 0) _ l)) (λ l. inr (inr (ltb-true fileLimit (length file) l))) (or-cases (eqb (length file) 0 || not (eqb (length file % 7) 0)) _ e))
+    (λ e d. let l = length-right file (ap (λ (b : Bool). refuseIf b badLength holds) e) in
+    let some = l .some in
+    let most = l .most in
+    let bytes = l .bytes in
+    ⊎-elim (λ z. omega arith) (⊎-elim (λ m. m (omega arith)) (λ m. omega arith)) d)
+    (λ e. covers-none 0)
+
+-- The verdict on a file is that of its first test that is due.
+pub check-first : (file : List ℕ) → FirstDue (fileTests file) (check file)
+unfolding check
+check-first file =
+    length-covers file .decides _ _
+    (subst (λ (k : ℕ). FirstDue (over (recordTests (records file)) k 0 ++ over (skipTests (records file)) k 0) (checkRecords [] (records file)))
+    (length-records file)
+    (records-first [] (records file)))
+
+-- ---- a run
+
+both-first : (ts us : List Test) (v next : Verdict) → FirstDue ts v → FirstDue us next → FirstDue (ts ++ us) (both v next)
+unfolding FirstDue
+both-first [] us v next e h = subst⁻¹ (λ (u : Verdict). FirstDue us (both u next)) e h
+both-first (t ∷ ts) us v next e h =
+    ⊎-elim (λ d. inl (d .0, ap (λ (u : Verdict). both u next) (d .1))) (λ d. inr (d .0, both-first ts us v next (d .1) h)) e
+
+same-length : (k n : ℕ) → not (eqb k n) ≡ false → k ≡ n
+same-length k n e = eqb-true k n (not-false (eqb k n) e)
+
+pub fitting : (b : Buffers) → misfit b ≡ false → Fitting b
+fitting b e =
+    let t = none-of (not (eqb (length (b .memory)) memorySize)) (not (eqb (length (b .log)) logSize)) (not (eqb (length (b .report)) reportSize)) (not (eqb (length (b .work)) workSize)) false (or-false (misfit b) ∙ e) in
+    record { memory = same-length _ _ (t .0); log = same-length _ _ (t .1); report = same-length _ _ (t .2); work = same-length _ _ (t .3) }
+
+pub misfitting : (b : Buffers) → misfit b ≡ true → Fitting b → ⊥
+misfitting b e f = false≢true (sym fits ∙ e)
+  where
+    fits : misfit b ≡ false
+    fits = simp (eq-eqb _ _ (f .memory), eq-eqb _ _ (f .log), eq-eqb _ _ (f .report), eq-eqb _ _ (f .work))
+
+-- a turn that names nobody
+stray-there : (n : ℕ) (turns : List ℕ) → namesNobody n turns ≡ true → (k : ℕ) × (k < length turns) × (n ≤ getD turns k 0)
+unfolding namesNobody
+stray-there n [] e = absurd (false≢true e)
+stray-there n (w ∷ ws) e =
+    ⊎-elim (λ h. (0, omega arith, leb-true n w h)) (λ h. let s = stray-there n ws h in (suc (s .0), omega (arith, s .1), s .2))
+    (or-cases (leb n w) (namesNobody n ws) e)
+
+stray-none : (n : ℕ) (turns : List ℕ) → namesNobody n turns ≡ false → (k : ℕ) → k < length turns → getD turns k 0 < n
+unfolding namesNobody
+stray-none n [] e k h = absurd (omega arith)
+stray-none n (w ∷ ws) e zero h = leb-false n w (or-left (leb n w) (namesNobody n ws) e)
+stray-none n (w ∷ ws) e (suc k) h = stray-none n ws (or-right (leb n w) e) k (omega arith)
+
+-- The verdict on a run is that of its first test that is due.
+pub run-first : (file turns : List ℕ) (b : Buffers) → FirstDue (runTests file turns b) (runVerdict file turns b)
+unfolding runVerdict
+run-first file turns b =
+    covers (misfit b) badBuffer holds (misfitting b) (λ e amiss. amiss (fitting b e)) (λ e. covers-none 0) .decides _ _
+    (covers (ltb turnLimit (length turns)) tooManyTurns holds (ltb-true _ _) (λ e d. let h = ltb-false turnLimit (length turns) e in omega arith) (λ e. covers-none 0) .decides _ _
+    (both-first (fileTests file) _ (check file) _ (check-first file)
+    (covers (namesNobody n turns) badTurn holds (stray-there n turns) (λ e d. let h = stray-none n turns e (d .0) (d .1) in let l = d .2 in omega arith) (λ e. covers-none 0) .decides [] accepted none-left)))
+  where
+    n : ℕ
+    n = workersOf (planOf file)
