@@ -72,7 +72,7 @@ module _ (rs : List Record) (f : FormedRecords rs) (i : ℕ) (h : i < length rs)
     | no l ↦ absurd (z (subst (λ (k : ℕ). recordAt rs k .op ≡ 0) (let e : _≡_ {A = ℕ} 0 i = omega arith in e) (f .first .op)))
   ]
 
-  is-step : isStep r ≡ true → StepRecord (workersIn rs) r
+  pub is-step : isStep r ≡ true → StepRecord (workersIn rs) r
   unfolding known rowIn
   is-step s =
       ⊎-elim (λ b. absurd (not-known 1 refl (b .op) s)) (λ t. t) (f .later i (is-later (λ z. not-known 0 refl z s)) h)

@@ -11,6 +11,7 @@ pub mod Covered
 pub mod FirstDue
 pub mod Described
 pub mod Formed
+pub mod Limit
 -- Demand 3: a theorem about any machine, the laws of this one, the round-by-round run, and the claim on states and on bytes.
 pub mod Confluence
 pub mod Invariant

@@ -141,6 +141,11 @@ unfoldable pub stepsIn : List Record → ℕ → List Step
 stepsIn [] w = []
 stepsIn (r ∷ rs) w = cond (isStepOf w r) (stepOf r ∷ stepsIn rs w) (stepsIn rs w)
 
+-- the step records of a file, of whichever worker
+unfoldable pub stepRecords : List Record → ℕ
+stepRecords [] = 0
+stepRecords (r ∷ rs) = cond (isStep r) 1 0 + stepRecords rs
+
 -- the index of the first step of worker w or a later one, or the number of records where there is none
 unfoldable pub firstIn : List Record → ℕ → ℕ
 firstIn [] w = 0

@@ -53,6 +53,7 @@ stepsBehind rs i r = length (stepsIn (drop (suc i) rs) (r .worker))
 pub record FormedRecords (rs : List Record) : Type 0 where
   pub marked : (i : ℕ) → i < length rs → recordAt rs i .mark ≡ planMark
   pub first : PlanRecord (recordAt rs 0)
+  -- barrier records and steps
   pub later : (i : ℕ) → 1 ≤ i → i < length rs → BarrierRecord (recordAt rs i) ⊎ StepRecord (workersIn rs) (recordAt rs i)
   -- "Then at most one record per barrier, ascending"
   pub ascending :
