@@ -1,14 +1,14 @@
 -- The tests of a run.
 use Prim.Native.Nat.{ℕ, suc, _+_, _<_, _≤_, max}
-use mathlib.Core.Bool.{Bool, true, false, _||_}
+use mathlib.Core.Bool.{Bool, true, false, not, _||_}
 use mathlib.Core.Path.{_≡_, refl, sym, ap, _∙_}
 use mathlib.Core.List.{List, [], _∷_}
 use native.Mathlib.Omega.{arith}
 use native.Mathlib.Numerals.{add-one}
-use lib.Dec.{leb, ltb}
+use lib.Dec.{leb, ltb, eqb}
 use lib.ListN.{length, getD, drop, drop-of-length-le}
 use lib.Seq.{drop-cons}
-use borrow.Author.Tests.{leb-true, leb-false, le-leb, lt-leb}
+use borrow.Author.Tests.{leb-true, leb-false, le-leb, lt-leb, eq-eqb, eqb-true, not-false}
 use Rattle.protocol.specs.Format.{planOf, records}
 use Rattle.protocol.specs.Refusals.{Refusal, badLength, badMark, badPlan, badBarrier, badWorker, badOp, badOperand, tooManySteps, noSize, skipTooFar, badBuffer, tooManyTurns, badTurn, numberOf, Verdict, accepted, refused, codeOf, check}
 use Rattle.protocol.specs.Turns.{workersOf}
@@ -22,6 +22,40 @@ use Rattle.plan.specs.declared.check.Layout.{Layout}
 use Rattle.tampermauve.specs.Run.{misfitBy, verdictBy, Admits}
 use Rattle.tampermauve.specs.declared.admit.Lengths.{Lengths}
 use Rattle.tampermauve.specs.declared.admit.Admitted.{Admitted}
+
+-- the lengths of the lent buffers
+
+pub record Fits (l : Lengths) : Type 0 where
+  pub memory : l .memory ≡ 2048
+  pub log : l .log ≡ 8256
+  pub report : l .report ≡ 16
+  pub work : l .work ≡ 32768
+
+same-length : (k n : ℕ) → not (eqb k n) ≡ false → k ≡ n
+same-length k n e = eqb-true k n (not-false (eqb k n) e)
+
+four : (a b c d : Bool) → a || b || c || d ≡ false → (a ≡ false) × (b ≡ false) × (c ≡ false) × (d ≡ false)
+four false false false d e = (refl, refl, refl, e)
+four false false true d e = (refl, refl, cc, cc)
+four false true c d e = (refl, cc, cc, cc)
+four true b c d e = (cc, cc, cc, cc)
+
+pub fits : (l : Lengths) → misfitBy l ≡ false → Fits l
+fits l e =
+    let t = four (not (eqb (l .memory) 2048)) (not (eqb (l .log) 8256)) (not (eqb (l .report) 16)) (not (eqb (l .work) 32768)) e in
+    record { memory = same-length _ _ (t .0); log = same-length _ _ (t .1); report = same-length _ _ (t .2); work = same-length _ _ (t .3) }
+
+-- where they do not all fit, one is wrong
+pub wrong : (l : Lengths) → (Fits l → ⊥) → true ≡ misfitBy l
+wrong l h = go (misfitBy l) refl
+  where
+    go : (b : Bool) → misfitBy l ≡ b → true ≡ misfitBy l
+    go true e = sym e
+    go false e = absurd (h (fits l e))
+
+-- where three fit, the last decides
+pub last-test : (l : Lengths) → l .memory ≡ 2048 → l .log ≡ 8256 → l .report ≡ 16 → not (eqb (l .work) 32768) ≡ misfitBy l
+last-test l m g r = sym (simp (eq-eqb (l .memory) 2048 m, eq-eqb (l .log) 8256 g, eq-eqb (l .report) 16 r))
 
 -- turns, one at a time: the greatest of those seen, then what is left
 
@@ -94,8 +128,8 @@ module _ (file turns : List ℕ) (l : Lengths) where
       ∙ (ap (λ (b : Bool). codeOf (verdictBy m b (check file) (namesNobody (workersOf (planOf file)) turns))) (sym et)
       ∙ ap (λ (b : Bool). codeOf (verdictBy b (ltb turnLimit (length turns)) (check file) (namesNobody (workersOf (planOf file)) turns))) (sym em)))
 
-  pub refuses : (a : Admitted) (r : ℕ) → a .code ≡ r → (r ≡ 0 → ⊥) → r ≡ decided → Admits file turns l a
-  refuses a r e h d = record { code = e ∙ d; layout = λ z. absurd (h (sym e ∙ z)) }
+  pub refuses : (a : Admitted) (f : Refusal) → a .code ≡ numberOf f → numberOf f ≡ decided → Admits file turns l a
+  refuses a f e d = record { code = e ∙ d; layout = λ z. absurd (omega (arith, e, z, some-number f)) }
 
 -- the file is accepted where the code is 0, and the layout's number of workers is its plan's
 pub good : (file : List ℕ) {r : Checked} {k : ℕ} → CheckedAs file r → k ≡ codeOf (verdictOf (r .verdict)) → k ≡ 0 → check file ≡ accepted
