@@ -238,17 +238,19 @@ store-open memory w a byte marks work marks′ work′ h holds =
     (slot-worker w (pageOf a) _ marks work marks′ _ b (store-slot (slotOf w (pageOf a)) (offsetOf a) byte _ marks work marks′ work′ o holds))
 
 -- two bytes, one after the other
-pub store-both : (memory : List ℕ) (w a number low high : ℕ) (marks : List Bool) (work : List ℕ) (marks₁ : List Bool) (work₁ : List ℕ)
+pub store-both : (memory : List ℕ) (w a b number low high : ℕ) (marks : List Bool) (work : List ℕ) (marks₁ : List Bool) (work₁ : List ℕ)
     (marks₂ : List Bool) (work₂ : List ℕ) → low ≡ number % 256 → high ≡ number / 256
     → WorkerHolds w (storeByte memory (copiesIn marks work w) a low) marks work marks₁ work₁
-    → WorkerHolds w (storeByte memory (copiesIn marks₁ work₁ w) (a + 1) high) marks₁ work₁ marks₂ work₂
+    → WorkerHolds w (storeByte memory (copiesIn marks₁ work₁ w) b high) marks₁ work₁ marks₂ work₂
+    → b ≡ a + 1
     → WorkerHolds w (storeWord memory (copiesIn marks work w) a number) marks work marks₂ work₂
 unfolding storeWord
-store-both memory w a number low high marks work marks₁ work₁ marks₂ work₂ l h first second =
+store-both memory w a b number low high marks work marks₁ work₁ marks₂ work₂ l h first second next =
     record {
       mine =
           second .mine
-          ∙ ap (λ (k : Copies). storeByte memory k (a + 1) high) (first .mine)
+          ∙ ap (λ (k : Copies). storeByte memory k b high) (first .mine)
+          ∙ ap (λ (k : ℕ). storeByte memory (storeByte memory (copiesIn marks work w) a low) k high) next
           ∙ ap (λ (n : ℕ). storeByte memory (storeByte memory (copiesIn marks work w) a n) (a + 1) high) l
           ∙ ap (λ (n : ℕ). storeByte memory (storeByte memory (copiesIn marks work w) a (number % 256)) (a + 1) n) h;
       others = λ v ne. second .others v ne ∙ first .others v ne;

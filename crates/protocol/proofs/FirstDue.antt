@@ -109,10 +109,21 @@ both-first (t ∷ ts) us v next e h =
 same-length : (k n : ℕ) → not (eqb k n) ≡ false → k ≡ n
 same-length k n e = eqb-true k n (not-false (eqb k n) e)
 
+-- the lengths of the four buffers
+abbrev pub AsLent : ℕ → ℕ → ℕ → ℕ → Type 0
+AsLent memory log report work = (memory ≡ memorySize) × (log ≡ logSize) × (report ≡ reportSize) × (work ≡ workSize)
+
+pub as-lent : (memory log report work : ℕ)
+    → not (eqb memory memorySize) || not (eqb log logSize) || not (eqb report reportSize) || not (eqb work workSize) ≡ false
+    → AsLent memory log report work
+as-lent memory log report work e =
+    let t = none-of (not (eqb memory memorySize)) (not (eqb log logSize)) (not (eqb report reportSize)) (not (eqb work workSize)) false (or-false _ ∙ e) in
+    (same-length _ _ (t .0), same-length _ _ (t .1), same-length _ _ (t .2), same-length _ _ (t .3))
+
 pub fitting : (b : Buffers) → misfit b ≡ false → Fitting b
 fitting b e =
-    let t = none-of (not (eqb (length (b .memory)) memorySize)) (not (eqb (length (b .log)) logSize)) (not (eqb (length (b .report)) reportSize)) (not (eqb (length (b .work)) workSize)) false (or-false (misfit b) ∙ e) in
-    record { memory = same-length _ _ (t .0); log = same-length _ _ (t .1); report = same-length _ _ (t .2); work = same-length _ _ (t .3) }
+    let t = as-lent (length (b .memory)) (length (b .log)) (length (b .report)) (length (b .work)) e in
+    record { memory = t .0; log = t .1; report = t .2; work = t .3 }
 
 pub misfitting : (b : Buffers) → misfit b ≡ true → Fitting b → ⊥
 misfitting b e f = false≢true (sym fits ∙ e)

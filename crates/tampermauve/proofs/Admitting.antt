@@ -1,20 +1,21 @@
 -- The tests of a run.
 use Prim.Native.Nat.{ℕ, suc, _+_, _<_, _≤_, max}
-use mathlib.Core.Bool.{Bool, true, false, _||_}
+use mathlib.Core.Bool.{Bool, true, false, not, _||_}
 use mathlib.Core.Path.{_≡_, refl, sym, ap, _∙_}
 use mathlib.Core.List.{List, [], _∷_}
 use native.Mathlib.Omega.{arith}
 use native.Mathlib.Numerals.{add-one}
-use lib.Dec.{leb, ltb}
+use lib.Dec.{leb, ltb, eqb}
 use lib.ListN.{length, getD, drop, drop-of-length-le}
 use lib.Seq.{drop-cons}
-use borrow.Author.Tests.{leb-true, leb-false, le-leb, lt-leb}
+use borrow.Author.Tests.{leb-true, leb-false, le-leb, lt-leb, eq-eqb}
 use Rattle.protocol.specs.Format.{planOf, records}
 use Rattle.protocol.specs.Refusals.{Refusal, badLength, badMark, badPlan, badBarrier, badWorker, badOp, badOperand, tooManySteps, noSize, skipTooFar, badBuffer, tooManyTurns, badTurn, numberOf, Verdict, accepted, refused, codeOf, check}
 use Rattle.protocol.specs.Turns.{workersOf}
 use Rattle.protocol.specs.Calls.{both, namesNobody, turnLimit}
 use Rattle.protocol.proofs.Records.{or-false}
 use Rattle.protocol.proofs.Accepted.{accepted-file, workers-of}
+use Rattle.protocol.proofs.FirstDue.{AsLent, as-lent}
 use Rattle.plan.specs.Answer.{verdictOf}
 use Rattle.plan.specs.Checking.{LaidOut, CheckedAs}
 use Rattle.plan.specs.declared.check.Checked.{Checked}
@@ -22,6 +23,19 @@ use Rattle.plan.specs.declared.check.Layout.{Layout}
 use Rattle.tampermauve.specs.Run.{misfitBy, verdictBy, Admits}
 use Rattle.tampermauve.specs.declared.admit.Lengths.{Lengths}
 use Rattle.tampermauve.specs.declared.admit.Admitted.{Admitted}
+
+-- the lengths of the lent buffers: where they are not all right, one is wrong
+
+pub wrong : (l : Lengths) → (AsLent (l .memory) (l .log) (l .report) (l .work) → ⊥) → true ≡ misfitBy l
+wrong l h = go (misfitBy l) refl
+  where
+    go : (b : Bool) → misfitBy l ≡ b → true ≡ misfitBy l
+    go true e = sym e
+    go false e = absurd (h (as-lent (l .memory) (l .log) (l .report) (l .work) e))
+
+-- where three are right, the last decides
+pub last-test : (l : Lengths) → l .memory ≡ 2048 → l .log ≡ 8256 → l .report ≡ 16 → not (eqb (l .work) 32768) ≡ misfitBy l
+last-test l m g r = sym (simp (eq-eqb (l .memory) 2048 m, eq-eqb (l .log) 8256 g, eq-eqb (l .report) 16 r))
 
 -- turns, one at a time: the greatest of those seen, then what is left
 
@@ -94,8 +108,8 @@ module _ (file turns : List ℕ) (l : Lengths) where
       ∙ (ap (λ (b : Bool). codeOf (verdictBy m b (check file) (namesNobody (workersOf (planOf file)) turns))) (sym et)
       ∙ ap (λ (b : Bool). codeOf (verdictBy b (ltb turnLimit (length turns)) (check file) (namesNobody (workersOf (planOf file)) turns))) (sym em)))
 
-  pub refuses : (a : Admitted) (r : ℕ) → a .code ≡ r → (r ≡ 0 → ⊥) → r ≡ decided → Admits file turns l a
-  refuses a r e h d = record { code = e ∙ d; layout = λ z. absurd (h (sym e ∙ z)) }
+  pub refuses : (a : Admitted) (f : Refusal) → a .code ≡ numberOf f → numberOf f ≡ decided → Admits file turns l a
+  refuses a f e d = record { code = e ∙ d; layout = λ z. absurd (omega (arith, e, z, some-number f)) }
 
 -- the file is accepted where the code is 0, and the layout's number of workers is its plan's
 pub good : (file : List ℕ) {r : Checked} {k : ℕ} → CheckedAs file r → k ≡ codeOf (verdictOf (r .verdict)) → k ≡ 0 → check file ≡ accepted

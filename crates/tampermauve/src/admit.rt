@@ -1,9 +1,13 @@
 // Whether a run is admitted.
+use plan::answer::Refusal;
 use plan::answer::code;
+use plan::answer::number;
 use plan::check::Layout;
 use plan::check::check;
 ghost use mathlib.Core.Path.{_≡_};
 ghost use Rattle.protocol.specs.Calls as calls;
+ghost use Rattle.protocol.specs.Refusals.{numberOf};
+ghost use Rattle.plan.specs.Answer.{refusalOf};
 ghost use Rattle.tampermauve.specs.Run.{misfitBy, Admits};
 
 // The lengths of the lent buffers.
@@ -52,11 +56,12 @@ fn names_nobody(turns: &[u8], n: u8) -> bool
     n <= most
 }
 
-fn refused(code: u32) -> Admitted
-    ensures { λ a. ⌜ a .code ≡ code ⌝ }
+// A run that is refused for itself and not for its file.
+fn refused(f: Refusal) -> Admitted
+    ensures { λ a. ⌜ a .code ≡ numberOf (refusalOf f) ⌝ }
 {
     Admitted {
-        code,
+        code: number(f),
         layout: Layout {
             workers: 0,
             sizes: [0u8; 8],
@@ -69,21 +74,23 @@ fn refused(code: u32) -> Admitted
 pub fn admit(file: &[u8], turns: &[u8], lent: Lengths) -> Admitted
     ensures { λ a. ⌜ Admits (now (file .entry)) (now (turns .entry)) lent a ⌝ }
 {
-    if misfit(lent) {
-        return refused(11);
+    let unfit = misfit(lent);
+    let many = 65535 < turns.len();
+    if unfit {
+        return refused(Refusal::BadBuffer);
     }
-    if 65535 < turns.len() {
-        return refused(12);
+    if many {
+        return refused(Refusal::TooManyTurns);
     }
     let checked = check(file);
     let verdict = checked.verdict;
-    let number = code(verdict);
-    if number != 0 {
-        return refused(number);
-    }
     let layout = checked.layout;
+    let code = code(verdict);
+    if code != 0 {
+        return Admitted { code, layout };
+    }
     if names_nobody(turns, layout.workers) {
-        return refused(13);
+        return refused(Refusal::BadTurn);
     }
     Admitted { code: 0, layout }
 }

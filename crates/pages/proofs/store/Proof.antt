@@ -1,5 +1,6 @@
 -- `store`: two bytes, one after the other.
 use borrow.Author.Needs.{needs}
+use native.Mathlib.Omega.{arith}
 use Rattle.pages.proofs.Slots.{store-both}
 use Rattle.pages.proofs.store.Statement.{statement}
 use Rattle.pages.proofs.store.Tie as tie
@@ -27,10 +28,11 @@ returns c =
     let second = c .before .before in
     let first = second .before .before .before .before .before .before in
     let a = first .before .before .before .before .before .before .args in
-    store-both (a .memory .now) (a .w) (a .address) (a .number) (first .before .low-byte .result) (second .before .high-byte .result)
+    store-both (a .memory .now) (a .w) (a .address) _ (a .number) (first .before .low-byte .result) (second .before .high-byte .result)
     (a .copied .now) (a .work .now) (first .store-byte .last .1 .1 .0) (first .store-byte .last .1 .0)
     (second .store-byte2 .last .1 .1 .0) (second .store-byte2 .last .1 .0)
     (first .before .low-byte .ensures) (second .before .high-byte .ensures) (first .store-byte .ensures) (second .store-byte2 .ensures)
+    (omega arith)
 
 pub store-spec : {M : Type 1} → statement M
 store-spec =

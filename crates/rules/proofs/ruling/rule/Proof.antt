@@ -36,7 +36,7 @@ exit-requires : tie.Need-exit-requires
 exit-requires c κs = search needs
 
 returns-5 : tie.Need-returns-5
-returns-5 c = by-exit (c .before .if5 .taken) (c .exit .ensures _ _ _)
+returns-5 c = by-exit (omega (arith, c .before .before .before .before .before .before .pre .most)) (c .exit .ensures _ _ _)
 
 signal-requires : tie.Need-signal-requires
 signal-requires c κs = search needs
