@@ -20,6 +20,8 @@ pub mod Bounds
 pub mod ByRounds
 pub mod Demand3
 pub mod Bytes
+pub mod Logged
 -- The paper's cases, a check on the definitions.
 pub mod Table
 pub mod Cases
+pub mod Texts
