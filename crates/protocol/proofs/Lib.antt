@@ -7,6 +7,7 @@ pub mod Prefix
 pub mod Tabled
 pub mod Sound
 pub mod Accepted
+pub mod Numbered
 -- Demand 3: a theorem about any machine, the laws of this one, the round-by-round run, and the claim on states and on bytes.
 pub mod Confluence
 pub mod Invariant
