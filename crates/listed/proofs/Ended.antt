@@ -1,4 +1,4 @@
--- The turns of a listing are taken and end the plan, so that what is listed is the round-by-round run. Callers want `listed`.
+-- The turns of a listing are taken and end the plan, so that what is listed is the round-by-round run. Callers want `whole-cycles`, `few-taken` and `listed`.
 use Prim.Native.Nat.{ℕ, zero, suc, _+_, _≤_}
 use mathlib.Core.Bool.{Bool, false, _||_}
 use mathlib.Core.Path.{_≡_, refl, sym, ap, _∙_, subst⁻¹}
@@ -26,7 +26,7 @@ use Rattle.listed.proofs.Turning.{length-up}
 whole : (n : ℕ) → Whole n (upTo n)
 whole n = record { turns = length-up n 0; each = λ w h. occurs-within n 0 w (omega arith) (omega arith) }
 
-whole-cycles : (n k : ℕ) → Cycles n k (cycles n k)
+pub whole-cycles : (n k : ℕ) → Cycles n k (cycles n k)
 unfolding cycles
 whole-cycles n zero = done
 whole-cycles n (suc k) = cycle (upTo n) _ (whole n) (whole-cycles n k) refl

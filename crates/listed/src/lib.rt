@@ -1,32 +1,60 @@
-// A plan's listing: its run from zero memory, as lines on standard output.
-pub mod lines;
+// A plan's listing: its run from zero memory, as lines of text.
+mod lines;
 mod run;
+pub mod text;
 mod turns;
 
-use crate::lines::print_end;
-use crate::lines::print_log;
-use crate::lines::print_refusal;
+use crate::lines::write_end;
+use crate::lines::write_log;
+use crate::lines::write_refusal;
 use crate::run::run_listed;
+use libc::STDOUT_FILENO;
+use plan::decode::pair;
 ghost use mathlib.Core.Path.{_≡_};
-ghost use lib.ListN.{replicate};
+ghost use Prim.Native.Nat.{_≤_};
+ghost use lib.ListN.{length, replicate};
 ghost use Rattle.protocol.specs.Calls.{checkCode, memorySize};
 ghost use Rattle.listed.specs.Listed.{listedRun};
+ghost use Rattle.listed.specs.Text.{textRoom, WroteListing};
 
-// Prints a line for each record of the log, then how the plan ended and the moving turns. A file that is refused gives one line.
-// Returns what tampermauve_check does, and leaves an accepted plan's memory.
-pub fn list(file: &[u8], memory: &mut [u8]) -> u32
+// Room for any listing.
+pub const TEXT_ROOM: usize = 22720;
+
+// What tampermauve_check returns, and how long the text is.
+pub struct Written {
+    pub code: u32,
+    pub length: usize,
+}
+
+// Writes a line for each record of the log, then how the plan ended and the moving turns. A file that is refused gives one line.
+// Leaves an accepted plan's memory.
+pub fn write_listing(file: &[u8], memory: &mut [u8], text: &mut [u8]) -> Written
     requires { ⌜ now memory ≡ replicate memorySize 0 ⌝ }
-    ensures code { λ r. ⌜ r ≡ checkCode (now (file .entry)) ⌝ }
-    ensures sameMemory { λ r. ⌜ (r ≡ 0 → now (memory .exit) ≡ listedRun (now (file .entry)) .memory) ⌝ }
+    requires { ⌜ textRoom ≤ length (now text) ⌝ }
+    ensures { λ r. ⌜ WroteListing (now (file .entry)) r (now (memory .exit)) (now (text .entry)) (now (text .exit)) ⌝ }
 {
     let mut log = [0u8; 8256];
     let mut report = [0u8; 16];
     let code = run_listed(file, memory, &mut log, &mut report);
     if code != 0 {
-        print_refusal(code);
-        return code;
+        let length = write_refusal(code, text, 0);
+        return Written { code, length };
     }
-    print_log(&log);
-    print_end(&report);
-    code
+    let records = pair(report[6], report[7]) as usize;
+    let end = write_log(&log, records, text, 0);
+    let length = write_end(&report, text, end);
+    Written { code, length }
+}
+
+// Prints a listing. Returns what tampermauve_check does, and leaves an accepted plan's memory.
+pub fn list(file: &[u8], memory: &mut [u8]) -> u32
+    requires { ⌜ now memory ≡ replicate memorySize 0 ⌝ }
+    ensures code { λ r. ⌜ r ≡ checkCode (now (file .entry)) ⌝ }
+    ensures sameMemory { λ r. ⌜ (r ≡ 0 → now (memory .exit) ≡ listedRun (now (file .entry)) .memory) ⌝ }
+{
+    let mut text = [0u8; TEXT_ROOM];
+    let written = write_listing(file, memory, &mut text);
+    let length = written.length;
+    io::write_all(STDOUT_FILENO, &text[..length]);
+    written.code
 }

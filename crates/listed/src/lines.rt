@@ -1,62 +1,77 @@
-// What is printed.
-use libc::STDOUT_FILENO;
+// The lines of a listing.
+use crate::text::wide;
+use crate::text::write_bytes;
+use crate::text::write_line;
 use plan::decode::pair;
-ghost use mathlib.Core.Path.{_≡_};
-ghost use Prim.Native.Nat.{_+_, _≤_};
-ghost use lib.ListN.{getD};
+ghost use mathlib.Core.List.{[], _∷_, _++_};
+ghost use Prim.Native.Nat.{_+_, _*_, _/_, _%_, _≤_};
+ghost use lib.ListN.{length};
+ghost use Rattle.protocol.specs.Listing.{space, recordLine, logLines, endWord, refusalLine};
+ghost use Rattle.listed.specs.Text.{Wrote, entryAt, entriesFrom, endBy, lastLine};
 
-// A number, and the byte that stands behind it.
-pub fn print_number(n: u64, behind: u8) {
-    io::print_decimal(STDOUT_FILENO, n);
-    io::write_all(STDOUT_FILENO, &[behind]);
-}
-
-fn print_byte(n: u8, behind: u8) {
-    print_number(n as u64, behind);
-}
-
-fn print_pair(low: u8, high: u8, behind: u8) {
-    print_number(pair(low, high) as u64, behind);
-}
-
-// Round, worker, op, number and outcome.
-fn print_record(log: &[u8; 8256], at: usize)
-    requires { ⌜ at + 8 ≤ 8256 ⌝ }
+// Round, worker, op, number and outcome of the record at a position of the log.
+fn write_record(log: &[u8], position: usize, text: &mut [u8], at: usize) -> usize
+    requires { ⌜ position + 8 ≤ length (now log) ⌝ }
+    requires { ⌜ at + 22 ≤ length (now text) ⌝ }
+    ensures { λ r. ⌜ Wrote (now (text .entry)) at (recordLine (entryAt (now (log .entry)) position)) (now (text .exit)) r ⌝ }
+    ensures { λ r. ⌜ r ≤ at + 22 ⌝ }
 {
-    print_pair(log[at + 2], log[at + 3], b' ');
-    print_byte(log[at + 4], b' ');
-    print_byte(log[at + 5], b' ');
-    print_byte(log[at + 6], b' ');
-    print_byte(log[at + 7], b'\n');
+    let columns = [
+        pair(log[position + 2], log[position + 3]) as u64,
+        wide(log[position + 4]),
+        wide(log[position + 5]),
+        wide(log[position + 6]),
+        wide(log[position + 7]),
+    ];
+    write_line(&columns, text, at)
 }
 
-// Where the log has no mark its records have ended: the rest is zero.
-pub fn print_log(log: &[u8; 8256]) {
-    let mut at = 0;
-    while at + 8 <= 8256 {
-        if log[at] == 0 {
-            return;
-        }
-        print_record(log, at);
-        at += 8;
-    }
-}
-
-// The end is 1, finished, or 2, stuck.
-pub fn print_end(report: &[u8; 16])
-    requires { ⌜ (getD (now report) 0 0 ≡ 0 → ⊥) ⌝ }
+// A line for each of so many records.
+pub fn write_log(log: &[u8], records: usize, text: &mut [u8], at: usize) -> usize
+    requires { ⌜ 8 * records ≤ length (now log) ⌝ }
+    requires { ⌜ at + 22 * records ≤ length (now text) ⌝ }
+    ensures { λ r. ⌜ Wrote (now (text .entry)) at (logLines (entriesFrom (now (log .entry)) records 0)) (now (text .exit)) r ⌝ }
+    ensures { λ r. ⌜ r ≤ at + 22 * records ⌝ }
 {
-    if report[0] == 1 {
-        io::write_all(STDOUT_FILENO, b"finished ");
-    } else {
-        io::write_all(STDOUT_FILENO, b"stuck ");
+    let mut end = at;
+    let mut i = 0;
+    while i < records {
+        end = write_record(log, 8 * i, text, end);
+        i += 1;
     }
-    print_pair(report[2], report[3], b'\n');
+    end
+}
+
+// How a plan that has ended did so: 1 is finished.
+fn write_end_word(end: u8, text: &mut [u8], at: usize) -> usize
+    requires { ⌜ at + 9 ≤ length (now text) ⌝ }
+    ensures { λ r. ⌜ Wrote (now (text .entry)) at (endWord (endBy end) ++ (space ∷ [])) (now (text .exit)) r ⌝ }
+    ensures { λ r. ⌜ r ≤ at + 9 ⌝ }
+{
+    if end == 1 {
+        return write_bytes(b"finished ", text, at);
+    }
+    write_bytes(b"stuck ", text, at)
+}
+
+// The end and the moving turns.
+pub fn write_end(report: &[u8; 16], text: &mut [u8], at: usize) -> usize
+    requires { ⌜ at + 15 ≤ length (now text) ⌝ }
+    ensures { λ r. ⌜ Wrote (now (text .entry)) at (lastLine (now (report .entry))) (now (text .exit)) r ⌝ }
+    ensures { λ r. ⌜ r ≤ at + 15 ⌝ }
+{
+    let moves = [pair(report[2], report[3]) as u64];
+    let end = write_end_word(report[0], text, at);
+    write_line(&moves, text, end)
 }
 
 // The code is refusal + 256 × index.
-pub fn print_refusal(code: u32) {
-    io::write_all(STDOUT_FILENO, b"refused ");
-    print_number((code % 256) as u64, b' ');
-    print_number((code / 256) as u64, b'\n');
+pub fn write_refusal(code: u32, text: &mut [u8], at: usize) -> usize
+    requires { ⌜ at + 21 ≤ length (now text) ⌝ }
+    ensures { λ r. ⌜ Wrote (now (text .entry)) at (refusalLine (code % 256) (code / 256)) (now (text .exit)) r ⌝ }
+    ensures { λ r. ⌜ r ≤ at + 21 ⌝ }
+{
+    let end = write_bytes(b"refused ", text, at);
+    let columns = [(code % 256) as u64, (code / 256) as u64];
+    write_line(&columns, text, end)
 }

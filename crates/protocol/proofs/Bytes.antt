@@ -19,7 +19,7 @@ use Rattle.protocol.proofs.Demand3.{demand3}
 use Rattle.protocol.proofs.Bounds.{Bounded, played-bounded}
 
 -- numbers that fit two bytes
-word-bytes : (k : ℕ) → k < 65536 → word (k % 256) (k / 256 % 256) ≡ k
+pub word-bytes : (k : ℕ) → k < 65536 → word (k % 256) (k / 256 % 256) ≡ k
 word-bytes k h = omega arith
 
 -- the report's first byte

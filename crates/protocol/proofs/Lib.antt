@@ -1,12 +1,13 @@
 -- Going by cases over a range of numbers.
 pub mod Each
--- The plan file: what an accepted one is.
+-- The plan file: what an accepted one is; then which test decides a verdict, and that accepted means well-formed.
 pub mod Records
 pub mod Taken
 pub mod Prefix
 pub mod Tabled
 pub mod Sound
 pub mod Accepted
+pub mod Numbered
 pub mod Covered
 pub mod FirstDue
 pub mod Described
@@ -25,6 +26,8 @@ pub mod Bounds
 pub mod ByRounds
 pub mod Demand3
 pub mod Bytes
+pub mod Logged
 -- The paper's cases, a check on the definitions.
 pub mod Table
 pub mod Cases
+pub mod Texts

@@ -88,7 +88,7 @@ exits round = entry round 0 38 0 255 ++ entry round 1 38 0 255
 abbrev racer : ℕ → ℕ → ℕ → List ℕ
 racer w from to = rec w 17 0 from ++ rec w 22 0 2 ++ rec w 16 1 1 ++ rec w 18 1 to
 
-abbrev race : List ℕ
+abbrev pub race : List ℕ
 race = planRec 2 ++ racer 0 2 0 ++ racer 1 0 2
 
 -- set a register to a number and store it at 0
@@ -101,6 +101,10 @@ adds w = rec w 17 0 0 ++ rec w 16 1 1 ++ rec w 19 0 1 ++ rec w 18 0 0
 
 abbrev locked : ℕ → List ℕ → List ℕ
 locked w steps = rec w 32 0 0 ++ steps ++ rec w 33 0 0
+
+-- "One worker: lock, wait."
+abbrev pub waiter : List ℕ
+waiter = planRec 1 ++ rec 0 32 0 0 ++ rec 0 34 0 0
 
 abbrev case : List ℕ → List ℕ → Fed → List ℕ → List ℕ → List ℕ → Case
 case f l t m g r = record { file = f; lent = l; fed = t; memory = m; log = g; report = r }
@@ -120,7 +124,7 @@ cases =
     -- 5: "The same without locks: 1."
     ∷ case (planRec 2 ++ adds 0 ++ adds 1) [] listing (1 ∷ []) (exits 1) (report 1 2 12 1 2 (both 1 1))
     -- 6: "One worker: lock, wait. Stuck, fate 3."
-    ∷ case (planRec 1 ++ rec 0 32 0 0 ++ rec 0 34 0 0) [] listing [] (entry 1 0 32 0 1 ++ entry 1 0 34 0 255) (report 2 1 3 1 2 (one 3))
+    ∷ case waiter [] listing [] (entry 1 0 32 0 1 ++ entry 1 0 34 0 255) (report 2 1 3 1 2 (one 3))
     -- 7: "One worker: store, unlock. Failed, memory unchanged, outcome 254." It stores a number that would show.
     ∷ case (planRec 1 ++ stores 0 7 ++ rec 0 33 0 0) [] listing [] (entry 1 0 33 0 254) (report 1 1 4 1 1 (one 2))
     -- 8: "Barrier size 2, two workers, barrier only: outcomes 0 and 2 in round 1."

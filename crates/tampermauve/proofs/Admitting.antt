@@ -10,12 +10,13 @@ use lib.ListN.{length, getD, drop, drop-of-length-le}
 use lib.Seq.{drop-cons}
 use borrow.Author.Tests.{leb-true, leb-false, le-leb, lt-leb, eq-eqb}
 use Rattle.protocol.specs.Format.{planOf, records}
-use Rattle.protocol.specs.Refusals.{Refusal, badLength, badMark, badPlan, badBarrier, badWorker, badOp, badOperand, tooManySteps, noSize, skipTooFar, badBuffer, tooManyTurns, badTurn, numberOf, Verdict, accepted, refused, codeOf, check}
+use Rattle.protocol.specs.Refusals.{Refusal, numberOf, Verdict, accepted, refused, codeOf, check}
 use Rattle.protocol.specs.Turns.{workersOf}
 use Rattle.protocol.specs.Calls.{both, namesNobody, turnLimit}
 use Rattle.protocol.proofs.Records.{or-false}
 use Rattle.protocol.proofs.Accepted.{accepted-file, workers-of}
 use Rattle.protocol.proofs.FirstDue.{AsLent, as-lent}
+use Rattle.protocol.proofs.Numbered.{numbered}
 use Rattle.plan.specs.Answer.{verdictOf}
 use Rattle.plan.specs.Checking.{LaidOut, CheckedAs}
 use Rattle.plan.specs.declared.check.Checked.{Checked}
@@ -72,24 +73,9 @@ stray-end n i turns most h = ap (λ (b : Bool). leb n most || b) (none-left n i 
 
 -- the number 0 is no refusal's
 
-pub some-number : (f : Refusal) → 1 ≤ numberOf f
-some-number badLength = omega arith
-some-number badMark = omega arith
-some-number badPlan = omega arith
-some-number badBarrier = omega arith
-some-number badWorker = omega arith
-some-number badOp = omega arith
-some-number badOperand = omega arith
-some-number tooManySteps = omega arith
-some-number noSize = omega arith
-some-number skipTooFar = omega arith
-some-number badBuffer = omega arith
-some-number tooManyTurns = omega arith
-some-number badTurn = omega arith
-
 pub none-refused : (v : Verdict) → codeOf v ≡ 0 → v ≡ accepted
 none-refused accepted e = refl
-none-refused (refused f i) e = absurd (omega (arith, e, some-number f))
+none-refused (refused f i) e = absurd (omega (arith, e, numbered f .0))
 
 pub first-refused : (v next : Verdict) → (codeOf v ≡ 0 → ⊥) → codeOf v ≡ codeOf (both v next)
 first-refused accepted next h = absurd (h refl)
@@ -109,7 +95,7 @@ module _ (file turns : List ℕ) (l : Lengths) where
       ∙ ap (λ (b : Bool). codeOf (verdictBy b (ltb turnLimit (length turns)) (check file) (namesNobody (workersOf (planOf file)) turns))) (sym em)))
 
   pub refuses : (a : Admitted) (f : Refusal) → a .code ≡ numberOf f → numberOf f ≡ decided → Admits file turns l a
-  refuses a f e d = record { code = e ∙ d; layout = λ z. absurd (omega (arith, e, z, some-number f)) }
+  refuses a f e d = record { code = e ∙ d; layout = λ z. absurd (omega (arith, e, z, numbered f .0)) }
 
 -- the file is accepted where the code is 0, and the layout's number of workers is its plan's
 pub good : (file : List ℕ) {r : Checked} {k : ℕ} → CheckedAs file r → k ≡ codeOf (verdictOf (r .verdict)) → k ≡ 0 → check file ≡ accepted

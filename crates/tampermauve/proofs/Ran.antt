@@ -12,8 +12,9 @@ use Rattle.protocol.specs.Turns.{workersOf}
 use Rattle.protocol.specs.Calls.{Buffers, Outcome, buffersOf, misfit, namesNobody, turnLimit, playedFrom, outcomeOf, runVerdict, run}
 use Rattle.protocol.specs.Demands.{Demand3Bytes}
 use Rattle.protocol.proofs.Bytes.{demand3-bytes}
+use Rattle.protocol.proofs.Numbered.{numbered}
 use Rattle.tampermauve.specs.Run.{verdictBy, Ran}
-use Rattle.tampermauve.proofs.Admitting.{some-number, none-refused}
+use Rattle.tampermauve.proofs.Admitting.{none-refused}
 
 -- what an answer of 0 says of the tests
 pub record Passed (m t : Bool) (v : Verdict) (s : Bool) : Type 0 where
@@ -27,7 +28,7 @@ tests-passed true t s v e = absurd (omega (arith, e))
 tests-passed false true s v e = absurd (omega (arith, e))
 tests-passed false false true accepted e = absurd (omega (arith, e))
 tests-passed false false false accepted e = record { buffers = refl; short = refl; file = refl; known = refl }
-tests-passed false false s (refused f i) e = absurd (omega (arith, e, some-number f))
+tests-passed false false s (refused f i) e = absurd (omega (arith, e, numbered f .0))
 
 module _ (file turns : List ℕ) (b : Buffers) where
   abbrev pub decided : ℕ

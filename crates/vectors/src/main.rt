@@ -4,9 +4,12 @@ mod memory;
 
 use crate::memory::memory_sum;
 use libc::STDOUT_FILENO;
-use listed::lines::print_number;
 use listed::list;
+use listed::text::write_bytes;
+use listed::text::write_line;
 use plan::decode::pair;
+ghost use Prim.Native.Nat.{_≤_};
+ghost use lib.ListN.{length};
 
 enum Number {
     Read(u16),
@@ -22,12 +25,21 @@ fn read_number(fd: i32) -> Number {
     Number::Read(pair(bytes[0], bytes[1]))
 }
 
+// A word with a space behind it, and a number: the room is for any.
+fn print_line(word: &[u8], number: u64)
+    requires { ⌜ length (now word) ≤ 11 ⌝ }
+{
+    let mut text = [0u8; 32];
+    let end = write_bytes(word, &mut text, 0);
+    let length = write_line(&[number], &mut text, end);
+    io::write_all(STDOUT_FILENO, &text[..length]);
+}
+
 fn list_plan(file: &[u8]) {
     let mut memory = [0u8; 2048];
     let code = list(file, &mut memory);
     if code == 0 {
-        io::write_all(STDOUT_FILENO, b"memory ");
-        print_number(memory_sum(&memory), b'\n');
+        print_line(b"memory ", memory_sum(&memory));
     }
 }
 
@@ -37,8 +49,7 @@ fn list_read(fd: i32, number: u16, file: &mut [u8]) -> bool {
     if length < file.len() {
         return false;
     }
-    io::write_all(STDOUT_FILENO, b"plan ");
-    print_number(number as u64, b'\n');
+    print_line(b"plan ", number as u64);
     list_plan(file);
     true
 }

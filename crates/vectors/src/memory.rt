@@ -1,15 +1,8 @@
 // A number that shows any change of one byte of the memory.
+use listed::text::wide;
 ghost use mathlib.Core.Path.{_≡_};
-ghost use Prim.Native.Nat.{_≤_};
 ghost use Rattle.protocol.specs.Calls.{memorySize};
 ghost use Rattle.vectors.specs.Sum.{weighed};
-
-fn wide(byte: u8) -> u64
-    ensures { λ r. ⌜ r ≡ byte ⌝ }
-    ensures { λ r. ⌜ r ≤ 255 ⌝ }
-{
-    byte as u64
-}
 
 // The sum of (address + 1) × byte.
 pub fn memory_sum(memory: &[u8; 2048]) -> u64

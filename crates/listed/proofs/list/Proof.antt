@@ -1,18 +1,27 @@
 use borrow.Author.Needs.{needs}
+use native.Mathlib.Omega.{arith}
+use mathlib.Core.Path.{sym, ap}
+use lib.ListN.{length, length-append}
+use lib.Seq.{length-take-le}
 use Rattle.listed.proofs.list.Statement.{statement}
 use Rattle.listed.proofs.list.Tie as tie
 
-slice-aggregate-run-listed : tie.Need-slice-aggregate-run-listed
-slice-aggregate-run-listed c = search needs
+slice-aggregate-write-listing : tie.Need-slice-aggregate-write-listing
+slice-aggregate-write-listing c = search needs
 
-slice-aggregate-run-listed-2 : tie.Need-slice-aggregate-run-listed-2
-slice-aggregate-run-listed-2 c = search needs
+write-listing-requires : tie.Need-write-listing-requires
+write-listing-requires c κs = search needs
 
-run-listed-requires : tie.Need-run-listed-requires
-run-listed-requires c κs = search needs
+array-share-prefix-text : tie.Need-array-share-prefix-text
+array-share-prefix-text c =
+    let wrote = c .before .before .before .write-listing .ensures in
+    omega (arith, wrote .size, simp length-append at (ap length (wrote .text)))
 
-print-refusal-requires : tie.Need-print-refusal-requires
-print-refusal-requires c κs = search needs
+slice-aggregate-write-all : tie.Need-slice-aggregate-write-all
+slice-aggregate-write-all c = sym (length-take-le _ _ (array-share-prefix-text (c .before)))
+
+write-all-requires : tie.Need-write-all-requires
+write-all-requires c κs = search needs
 
 same-length : tie.Need-same-length
 same-length c = search needs
@@ -20,30 +29,14 @@ same-length c = search needs
 returns : tie.Need-returns
 returns c = search needs
 
-print-log-requires : tie.Need-print-log-requires
-print-log-requires c κs = search needs
-
-print-end-requires : tie.Need-print-end-requires
-print-end-requires c κs =
-    c .before .before .before .before .before .before .before .before .run-listed .ensures .ended (c .before .before .before .if1 .left)
-
-same-length-2 : tie.Need-same-length-2
-same-length-2 c = search needs
-
-returns-2 : tie.Need-returns-2
-returns-2 c = search needs
-
 pub list-spec : {M : Type 1} → statement M
 list-spec =
     tie.close
     (tie.spec
-    slice-aggregate-run-listed
-    slice-aggregate-run-listed-2
-    run-listed-requires
-    print-refusal-requires
+    slice-aggregate-write-listing
+    write-listing-requires
+    array-share-prefix-text
+    slice-aggregate-write-all
+    write-all-requires
     same-length
-    returns
-    print-log-requires
-    print-end-requires
-    same-length-2
-    returns-2)
+    returns)

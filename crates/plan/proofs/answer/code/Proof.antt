@@ -2,27 +2,12 @@ use borrow.Author.Needs.{needs}
 use Prim.Native.Nat.{_≤_}
 use mathlib.Core.Path.{ap, sym}
 use native.Mathlib.Omega.{arith}
-use Rattle.protocol.specs.Refusals.{Refusal, numberOf, codeOf}
-use Rattle.protocol.specs.Refusals as protocol
+use Rattle.protocol.specs.Refusals.{codeOf}
+use Rattle.protocol.proofs.Numbered.{numbered}
 use Rattle.plan.specs.Answer.{refusalOf, verdictOf}
 use Rattle.plan.specs.declared.answer.Verdict.{Verdict}
 use Rattle.plan.proofs.answer.code.Statement.{statement}
 use Rattle.plan.proofs.answer.code.Tie as tie
-
-small : (f : Refusal) → numberOf f ≤ 13
-small protocol.badLength = omega arith
-small protocol.badMark = omega arith
-small protocol.badPlan = omega arith
-small protocol.badBarrier = omega arith
-small protocol.badWorker = omega arith
-small protocol.badOp = omega arith
-small protocol.badOperand = omega arith
-small protocol.tooManySteps = omega arith
-small protocol.noSize = omega arith
-small protocol.skipTooFar = omega arith
-small protocol.badBuffer = omega arith
-small protocol.tooManyTurns = omega arith
-small protocol.badTurn = omega arith
 
 index : (c : tie.After-number) → c .before .before .v .given .0 .1 .0 ≤ 1033
 index c = c .before .before .before .before .pre _ _ (ap verdictOf (c .before .before .v .given .1))
@@ -43,7 +28,7 @@ mul-result : tie.Need-mul-result
 mul-result c = let h = index c in omega arith
 
 add-result : tie.Need-add-result
-add-result c = let h = index c in let n = small (refusalOf (c .before .before .v .given .0 .0)) in let e = c .number .ensures in omega arith
+add-result c = let h = index c in let n = numbered (refusalOf (c .before .before .v .given .0 .0)) .1 in let e = c .number .ensures in omega arith
 
 returns : tie.Need-returns
 returns c = search needs

@@ -34,7 +34,7 @@ wide-requires c κs = search needs
 
 -- what one byte adds
 added : (c : tie.After-wide Inv-loop μ-loop) → (c .before .before .before .loop .address + 1) * c .wide .result ≤ 522240
-added c = mul-le-mul {n₂ = 2048} {m₂ = 255} (omega (arith, c .before .before .loop-test .taken)) (c .wide .ensures .1)
+added c = mul-le-mul {n₂ = 2048} {m₂ = 255} (omega (arith, c .before .before .loop-test .taken)) (omega (arith, c .wide .ensures .1))
 
 mul-sum : tie.Need-mul-sum Inv-loop μ-loop
 mul-sum c = omega (arith, added c)

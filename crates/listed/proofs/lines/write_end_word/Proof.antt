@@ -1,0 +1,52 @@
+use borrow.Author.Needs.{needs}
+use native.Mathlib.Omega.{arith}
+use mathlib.Core.Bool.{Bool, cond}
+use mathlib.Core.Path.{sym, ap}
+use mathlib.Core.List.{[], _∷_, _++_}
+use borrow.Author.Tests.{eq-eqb, ne-eqb}
+use Rattle.protocol.specs.Report.{finished, stuck}
+use Rattle.protocol.specs.Listing.{space, endWord}
+use Rattle.listed.proofs.Writing.{wrote-as}
+use Rattle.listed.proofs.lines.write_end_word.Statement.{statement}
+use Rattle.listed.proofs.lines.write_end_word.Tie as tie
+
+slice-aggregate-write-bytes : tie.Need-slice-aggregate-write-bytes
+slice-aggregate-write-bytes c = search needs
+
+write-bytes-requires : tie.Need-write-bytes-requires
+write-bytes-requires c κs = search needs
+
+same-length : tie.Need-same-length
+same-length c = search needs
+
+returns : tie.Need-returns
+returns c =
+    let wrote = c .before .before in
+    (wrote-as (wrote .write-bytes .ensures) (ap (λ (b : Bool). endWord (cond b finished stuck) ++ (space ∷ [])) (sym (eq-eqb _ 1 (wrote .before .before .before .if1 .taken)))), omega (arith, wrote .write-bytes .ensures .ends))
+
+slice-aggregate-write-bytes-2 : tie.Need-slice-aggregate-write-bytes-2
+slice-aggregate-write-bytes-2 c = search needs
+
+write-bytes-requires-2 : tie.Need-write-bytes-requires-2
+write-bytes-requires-2 c κs = search needs
+
+same-length-2 : tie.Need-same-length-2
+same-length-2 c = search needs
+
+returns-2 : tie.Need-returns-2
+returns-2 c =
+    let wrote = c .before .before in
+    (wrote-as (wrote .write-bytes2 .ensures) (ap (λ (b : Bool). endWord (cond b finished stuck) ++ (space ∷ [])) (sym (ne-eqb _ 1 (wrote .before .before .before .if1 .left)))), omega (arith, wrote .write-bytes2 .ensures .ends))
+
+pub write-end-word-spec : {M : Type 1} → statement M
+write-end-word-spec =
+    tie.close
+    (tie.spec
+    slice-aggregate-write-bytes
+    write-bytes-requires
+    same-length
+    returns
+    slice-aggregate-write-bytes-2
+    write-bytes-requires-2
+    same-length-2
+    returns-2)

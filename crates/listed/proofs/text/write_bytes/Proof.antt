@@ -1,0 +1,62 @@
+use borrow.Author.Needs.{needs}
+use native.Mathlib.Numerals.{add-one}
+use Prim.Native.Nat.{_+_, _-_}
+use mathlib.Core.Path.{refl}
+use mathlib.Core.List.{[], _∷_}
+use lib.ListN.{length, getD, drop, drop-of-length-le}
+use lib.Seq.{drop-cons}
+use Rattle.listed.proofs.Writing.{Left, all-left, left-as, room-left, less-left, none-left, left-length}
+use Rattle.listed.proofs.text.write_bytes.Statement.{statement}
+use Rattle.listed.proofs.text.write_bytes.Tie as tie
+
+abbrev Inv-loop : tie.InvT-loop
+Inv-loop bytes text₀ at end₀ i₀ text end i = Left text₀ at bytes text end (drop i bytes)
+
+abbrev μ-loop : tie.MeasureT-loop
+μ-loop bytes text₀ at end₀ i₀ text end i = length bytes - i
+
+loop-holds : tie.Need-loop-holds Inv-loop μ-loop
+loop-holds c = all-left _ _ _ _ refl
+
+shared-slice-read-write-byte : tie.Need-shared-slice-read-write-byte Inv-loop μ-loop
+shared-slice-read-write-byte c = search needs
+
+-- the next byte, and those behind it
+left : (c : tie.In-loop Inv-loop μ-loop)
+    → Left (c .before .before .before .before .args .text .now) (c .before .before .before .before .args .at) (c .before .before .before .before .args .bytes .now) (c .before .loop .text) (c .before .loop .end) (getD (c .before .before .before .before .args .bytes .now) (c .before .loop .i) 0 ∷ drop (c .before .loop .i + 1) (c .before .before .before .before .args .bytes .now))
+left c = left-as (c .before .loop .inv) (rw add-one (drop-cons _ _ 0 (c .loop-test .taken)))
+
+write-byte-requires : tie.Need-write-byte-requires Inv-loop μ-loop
+write-byte-requires c κs = room-left (_ ∷ []) _ (left (c .before .before)) (c .before .before .before .before .before .before .pre)
+
+add-i : tie.Need-add-i Inv-loop μ-loop
+add-i c = search needs
+
+loop-less : tie.Need-loop-less Inv-loop μ-loop
+loop-less c = search needs
+
+loop-again : tie.Need-loop-again Inv-loop μ-loop
+loop-again c =
+    let wrote = c .before .before in
+    less-left (_ ∷ []) _ (left (wrote .before .before .before)) (wrote .write-byte .ensures)
+
+same-length : tie.Need-same-length Inv-loop μ-loop
+same-length c = left-length (c .before .loop .inv)
+
+returns : tie.Need-returns Inv-loop μ-loop
+returns c = none-left (left-as (c .before .loop .inv) (drop-of-length-le _ (c .loop-test .left)))
+
+pub write-bytes-spec : {M : Type 1} → statement M
+write-bytes-spec =
+    tie.close
+    (tie.spec
+    Inv-loop
+    μ-loop
+    loop-holds
+    shared-slice-read-write-byte
+    write-byte-requires
+    add-i
+    loop-less
+    loop-again
+    same-length
+    returns)
