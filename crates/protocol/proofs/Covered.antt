@@ -18,9 +18,9 @@ use Rattle.protocol.proofs.Records.{one, or-left, or-right, and-left, a
 use Rattle.protocol.proofs.Taken.{barrier-no-step, none-of}
 use Rattle.protocol.proofs.Accepted.{planTest, plan-record}
 
-pub none-left : FirstDue [] accepted
+pub nothing-due : FirstDue [] accepted
 unfolding FirstDue
-none-left = refl
+nothing-due = refl
 
 -- a rule of index i stands for some tests: whatever tests and verdict come behind, the first that is due decides
 pub record Covers (ts : List Test) (rule : Rule) (i : ℕ) : Type 1 where

@@ -18,7 +18,7 @@ use Rattle.protocol.specs.Conditions.{LengthAmiss, SkipBeyond, Test, tes
 use Rattle.protocol.proofs.Records.{one, or-false, or-left, or-right, and-left, and-right}
 use Rattle.protocol.proofs.Taken.{none-of}
 use Rattle.protocol.proofs.Accepted.{length-right, length-records}
-use Rattle.protocol.proofs.Covered.{none-left, Covers, covers-none, covers, or-cases, record-covers}
+use Rattle.protocol.proofs.Covered.{nothing-due, Covers, covers-none, covers, or-cases, record-covers}
 
 -- ---- all records, then all skips
 
@@ -53,7 +53,7 @@ next-index before r = let e = length-append before (one r) in omega arith
 
 skips-first : (before rest : List Record) → FirstDue (over (skipTests (before ++ rest)) (length rest) (length before)) (checkSkips (length before) rest)
 unfolding checkSkips over
-skips-first before [] = none-left
+skips-first before [] = nothing-due
 skips-first before (r ∷ rest) =
     skip-covers before rest r .decides _ _
     (subst (λ (rs : List Record). FirstDue (over (skipTests rs) (length rest) (suc (length before))) (checkSkips (suc (length before)) rest))
@@ -152,7 +152,7 @@ run-first file turns b =
     covers (misfit b) badBuffer holds (misfitting b) (λ e amiss. amiss (fitting b e)) (λ e. covers-none 0) .decides _ _
     (covers (ltb turnLimit (length turns)) tooManyTurns holds (ltb-true _ _) (λ e d. let h = ltb-false turnLimit (length turns) e in omega arith) (λ e. covers-none 0) .decides _ _
     (both-first (fileTests file) _ (check file) _ (check-first file)
-    (covers (namesNobody n turns) badTurn holds (stray-there n turns) (λ e d. let h = stray-none n turns e (d .0) (d .1) in let l = d .2 in omega arith) (λ e. covers-none 0) .decides [] accepted none-left)))
+    (covers (namesNobody n turns) badTurn holds (stray-there n turns) (λ e d. let h = stray-none n turns e (d .0) (d .1) in let l = d .2 in omega arith) (λ e. covers-none 0) .decides [] accepted nothing-due)))
   where
     n : ℕ
     n = workersOf (planOf file)

@@ -16,7 +16,7 @@ use Rattle.protocol.proofs.Records.{split}
 use Rattle.protocol.proofs.Accepted.{accepted-file, workers-of}
 use Rattle.protocol.proofs.Formed.{is-step, well-formed}
 
--- how many of the workers i, i + 1, .. have a record as their step, of which there are k
+-- of the k workers from i on, how many have this record among their steps: it is one's or nobody's
 unfoldable hits : Record → ℕ → ℕ → ℕ
 hits r zero i = 0
 hits r (suc k) i = cond (isStepOf i r) 1 0 + hits r k (suc i)
