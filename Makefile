@@ -1,9 +1,7 @@
 # make         the library, the header check, the C test programs
 # make test    the gate, .ci/run: all proofs from nothing, then every test
-# make test-c  the C tests alone
-# make test-apart  the simulator's tests, and the library held against it
-# make soak, make mutants, make fuzz, make bench, make bench-instructions  what takes longer; see the end of this file
-# make test-listings  the listings of the plans in plans/ alone
+# make tests   every test, on what is proved already; test-NAME is one of them (TESTS below)
+# make soak, make mutants, make fuzz, make bench, make bench-instructions, make controls, make broken  what takes longer; see the end of this file
 # make clean   removes all that is built
 #
 # What is proved and the C tests stand under target/, which `rt ci` removes too; the measuring program under build/, and what cargo
@@ -29,25 +27,29 @@ RT_PROGRAMS = listing vectors
 
 PROVED = $(shell find crates -name '*.rt' -o -name '*.antt') crates.txt
 
-.PHONY: all lib header programs test test-c test-listings test-header test-readme clean $(C_TESTS:%=test-c-%) \
-    test-apart test-simulator test-differential test-hold test-hosts test-fuzz test-vectors test-twin soak mutants fuzz bench bench-instructions
+# The tests of the gate. What each must print there is in .ci/said.
+TESTS = test-promises test-c test-listings test-simulator test-differential test-twin test-hold test-hosts test-fuzz test-vectors
 
+.PHONY: all
 all: lib header programs
 
+.PHONY: lib
 lib: $(LIB)
 
+.PHONY: header
 header: $(OUT)/header.c.o $(OUT)/header.cc.o
 
+.PHONY: programs
 programs: $(C_PROGRAMS) $(OUT)/readme $(RT_PROGRAMS:%=target/bin/%)
 
+.PHONY: test
 test:
 	.ci/run
 
-test-c: header $(C_TESTS:%=test-c-%) test-readme
+.PHONY: tests
+tests: $(TESTS)
 
-test-listings: target/bin/listing
-	tests/listings.sh $<
-
+.PHONY: clean
 clean:
 	rm -rf target build simulator/target tests/differential/target tests/fuzz/reference/target
 
@@ -71,6 +73,10 @@ $(OUT)/header.c.o: $(HEADER) | $(OUT)
 $(OUT)/header.cc.o: $(HEADER) | $(OUT)
 	$(CXX) $(CXXFLAGS) -x c++ -c $< -o $@
 
+.PHONY: test-header
+test-header: header
+	@echo "header: compiled as C99 and as C++"
+
 # ---- C programs
 
 $(OUT):
@@ -81,6 +87,9 @@ $(OUT)/%: tests/%.c $(wildcard tests/*.h) $(HEADER) $(LIB) | $(OUT)
 
 $(OUT)/%.sanitized: tests/%.c $(wildcard tests/*.h) $(HEADER) $(LIB) | $(OUT)
 	$(CC) $(CFLAGS) $(SANITIZE) -Iinclude -Itests $< $(LIB) -o $@
+
+.PHONY: test-c $(C_TESTS:%=test-c-%)
+test-c: test-header $(C_TESTS:%=test-c-%) test-readme
 
 $(C_TESTS:%=test-c-%): test-c-%: $(OUT)/% $(OUT)/%.sanitized
 	$(OUT)/$*
@@ -102,10 +111,21 @@ $(OUT)/readme.expected: README.md | $(OUT)
 $(OUT)/readme: $(OUT)/readme.c $(HEADER) $(LIB)
 	$(CC) $(CFLAGS) -Iinclude $< $(LIB) -o $@
 
+.PHONY: test-readme
 test-readme: $(OUT)/readme $(OUT)/readme.expected
 	$(OUT)/readme > $(OUT)/readme.printed
 	diff $(OUT)/readme.expected $(OUT)/readme.printed
 	@echo "readme: prints what README.md says"
+
+# ---- what docs/PROMISES.md names, and the listings of the plans in plans/
+
+.PHONY: test-promises
+test-promises:
+	tests/promises.sh
+
+.PHONY: test-listings
+test-listings: target/bin/listing
+	tests/listings.sh $<
 
 # ---- the simulator, and what is held against it: Rust with its standard library alone
 
@@ -114,43 +134,51 @@ COUNT = 250000
 TWIN_COUNT = 25000
 SECONDS = 600
 
-test-apart: test-simulator test-differential test-twin test-hold test-hosts test-fuzz test-vectors
-
+.PHONY: test-simulator
 test-simulator:
 	cd simulator && cargo test --release --offline --quiet
 
+.PHONY: test-differential
 test-differential: $(LIB)
 	tests/differential.sh library --seed $(SEED) --count $(COUNT)
 
 # the C twin that the library is measured against is a correct peer
+.PHONY: test-twin
 test-twin:
 	tests/differential.sh twin --seed $(SEED) --count $(TWIN_COUNT)
 
 # the listing program beside the simulator's, on random plans
+.PHONY: test-hold
 test-hold: target/bin/listing
 	cd simulator && cargo build --release --offline --quiet
 	simulator/target/release/hold target/bin/listing --count 1000
 
+.PHONY: test-hosts
 test-hosts: $(LIB)
 	tests/hosts.sh
 
+.PHONY: test-fuzz
 test-fuzz: $(LIB)
 	tests/fuzz.sh replay
 
 # the stored plans: what is stored is the simulator's, and the program vectors prints it from them and from no others
+.PHONY: test-vectors
 test-vectors: target/bin/vectors
 	tests/vectors.sh check
 	tests/vectors.sh bites $<
 
 # for as long as SECONDS says, with a seed that SEED names
+.PHONY: soak
 soak: $(LIB)
 	tests/differential.sh library --seed $(SEED) --seconds $(SECONDS)
 
 # each fault of tests/differential/mutants must be caught
+.PHONY: mutants
 mutants:
 	tests/mutants.sh
 
 # needs clang with libFuzzer
+.PHONY: fuzz
 fuzz: $(LIB)
 	tests/fuzz.sh run $(SECONDS)
 
@@ -160,8 +188,10 @@ build/bench: $(wildcard bench/*.c bench/*.h) $(LIB)
 	$(CC) -std=c99 -O3 -Wall -Wextra -Werror -pedantic -c bench/twin.c -o build/twin.o
 	$(CC) -std=c99 -O3 -Wall -Wextra -Werror -pedantic -Iinclude bench/bench.c bench/sets.c build/twin.o $(LIB) -lm -o $@
 
+.PHONY: bench
 bench: build/bench
 	build/bench --passes 25 --csv build/bench.csv --svg build/bench.svg
 
+.PHONY: bench-instructions
 bench-instructions: build/bench
 	bench/instructions.sh build/bench build/instructions.csv

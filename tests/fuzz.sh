@@ -6,7 +6,9 @@
 # tests/fuzz.sh keep [ARCHIVE] [INCLUDE]    keep those new inputs that add coverage
 #
 # ARCHIVE and INCLUDE as for tests/hosts.sh. Running and keeping need clang
-# with libFuzzer. New inputs go to build/fuzz/found.
+# with libFuzzer. New inputs go to build/fuzz/found. tests/fuzz/corpus.sum has
+# the count of the kept ones and a sum of their names and contents, so that none
+# is lost or emptied unseen.
 set -eu
 cd "$(dirname "$0")/.."
 what=${1:-replay}
@@ -43,8 +45,16 @@ build_fuzzer() {
         -o "$out/fuzz"
 }
 
+sum_of_corpus() {
+    echo "$(ls "$kept" | wc -l) $( (cd "$kept" && sha256sum -- * | LC_ALL=C sort) | sha256sum | cut -d ' ' -f 1)"
+}
+
 case $what in
 replay)
+    if [ "$(sum_of_corpus)" != "$(cat tests/fuzz/corpus.sum)" ]; then
+        echo "fuzz: the kept inputs are not those of tests/fuzz/corpus.sum: $(sum_of_corpus)"
+        exit 1
+    fi
     ${CC:-cc} $strict -O1 -I "$include" $sources tests/fuzz/replay.c \
         $libraries -o "$out/replay"
     "$out/replay" "$kept"/*
@@ -57,6 +67,7 @@ run)
 keep)
     build_fuzzer
     "$out/fuzz" -merge=1 -max_len=600 "$kept" "$out/found"
+    sum_of_corpus > tests/fuzz/corpus.sum
     ;;
 *)
     echo "tests/fuzz.sh replay | run SECONDS | keep"

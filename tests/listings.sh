@@ -1,6 +1,7 @@
 #!/usr/bin/env bash
-# Runs a listing program on the plans of plans/ and on inputs at the limits, and compares what it prints. Usage: tests/listings.sh PROGRAM
-set -u
+# Runs a listing program on the plans of plans/ and on inputs at the limits, and compares what it prints; it must end with status 0, a
+# refused plan included. Usage: tests/listings.sh PROGRAM
+set -u -o pipefail
 program=$(realpath "$1") || exit 1
 cd "$(dirname "${BASH_SOURCE[0]}")/.." || exit 1
 plan_file=tests/plan_file.sh
@@ -45,10 +46,10 @@ signals_listing() {
     echo finished 2064
 }
 
-for steps in plans/*.steps; do
-    plan=${steps%.steps}.plan
-    same <("$plan_file" <"$steps") "$plan"
-    listed "$plan" "${steps%.steps}.listing" <"$plan"
+# A plan has three files: its text, its bytes and its listing. What has one of them must have all.
+for name in $(printf '%s\n' plans/*.* | sed 's/\.[a-z]*$//' | sort -u); do
+    same <("$plan_file" <"$name.steps") "$name.plan"
+    listed "$name.plan" "$name.listing" <"$name.plan"
 done
 same plans/race.plan crates/listing/stdin
 same plans/race.listing crates/listing/stdout

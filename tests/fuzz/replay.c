@@ -1,8 +1,11 @@
 /* Feeds kept inputs to the fuzz target, without a fuzzer. Ends by abort() at
- * the first difference; prints how many inputs there were. */
+ * the first difference; prints how many inputs there were. An input that is
+ * too short to make a call is an error: it tests nothing. */
 #include <stdint.h>
 #include <stdio.h>
 #include <stdlib.h>
+
+enum { LEAST_INPUT = 4 };
 
 int LLVMFuzzerTestOneInput(const uint8_t *data, size_t size);
 
@@ -17,6 +20,10 @@ static int replay(const char *path)
     }
     size = fread(data, 1, sizeof data, in);
     fclose(in);
+    if (size < LEAST_INPUT) {
+        fprintf(stderr, "%s: makes no call\n", path);
+        return 1;
+    }
     LLVMFuzzerTestOneInput(data, size);
     return 0;
 }

@@ -1,0 +1,191 @@
+#!/usr/bin/env bash
+# Breaks one thing of each kind in a copy of the repository and sees that the test which looks at it fails and says what of it, and tries on
+# the gate what once fooled it. Not part of the gate. It needs what `make` has built; no proof is run: the gate is tried with an rt that
+# answers at once. Prints a line for each thing broken, then `N of N seen`.
+set -u -o pipefail
+cd "$(dirname "${BASH_SOURCE[0]}")/.." || exit 1
+archive=target/staticlib/libtampermauve.a
+[ -f "$archive" ] && [ -x target/bin/listing ] && [ -x target/bin/vectors ] || { echo "broken: run make first" >&2; exit 2; }
+work=$(mktemp -d) || exit 2
+trap 'rm -rf "$work"' EXIT
+mkdir "$work/copy" "$work/bin" "$work/right" || exit 2
+git ls-files -co --exclude-standard | tar -cf - -T - target | tar -xf - -C "$work/copy" || exit 2
+cd "$work/copy" || exit 2
+seen=0
+tried=0
+
+# A command that must fail, and say so.
+fails() { # NAME TEXT COMMAND...
+    local status=0
+    "${@:3}" >"$work/said" 2>&1 || status=$?
+    tried=$((tried + 1))
+    if [ "$status" -ne 0 ] && grep -qF -- "$2" "$work/said"; then
+        seen=$((seen + 1))
+        echo "seen    $1: $2"
+    else
+        echo "MISSED  $1: status $status, and the last line is: $(tail -n 1 "$work/said")"
+    fi
+}
+
+# The same with a file changed by a sed script while the command runs.
+changed() { # NAME FILE SCRIPT TEXT COMMAND...
+    cp -p "$2" "$work/kept"
+    sed -i -e "$3" "$2"
+    cmp -s "$2" "$work/kept" && { echo "broken: $1: nothing changes in $2" >&2; exit 2; }
+    fails "$1" "${@:4}"
+    mv "$work/kept" "$2"
+    # What was built from the broken file is built anew; what is proved need not be.
+    [[ $2 == crates/* ]] || touch "$2"
+}
+
+# The same with a file or folder moved away.
+without() { # NAME PATH TEXT COMMAND...
+    mv "$2" "$work/kept" || exit 2
+    fails "$1" "${@:3}"
+    mv "$work/kept" "$2"
+}
+
+# ---- each test, by one value that it expects or one thing that it reads
+
+# A refusal that tests/check.c expects.
+expected='/the mark of record 1,032/s/2, 1032/2, 1031/'
+
+c_tests() {
+    changed "a refusal that the check test expects" tests/check.c "$expected" 'check: 1 of ' make test-c-check
+    changed "a refusal that the run test expects" tests/run.c 's/\("11, no byte", f, turns, 4, told\), 11/\1, 12/' ' 4 failures' make test-c-run
+    changed "a byte that the run test expects" tests/run.c 's/{"case 1", {1, 0, 1, 0}/{"case 1", {1, 0, 2, 0}/' ' 2 failures' make test-c-run
+    changed "what README.md says that its program prints" README.md 's/^end 0, moving turns 2/end 0, moving turns 3/' '> end 0, moving turns 2' make test-readme
+    changed "a constant of the header" include/tampermauve.h 's/8256/8257/' '> refused 11' make test-readme
+    changed "a header that is no C++" include/tampermauve.h '$a int class;' 'header.cc.o] Error' make test-header
+    changed "what a host must print" tests/hosts.sh 's/26 moving turns/27 moving turns/' 'printed: finished: 26' make test-hosts
+    fails "a test that does not exist" 'No rule to make target' make test-nothing
+}
+
+listings() {
+    changed "a listing that is expected" plans/merge.listing '1s/^1/2/' 'plans/merge.plan is not listed' make test-listings
+    changed "the bytes of a plan" plans/merge.plan 's/M/N/' 'plans/merge.plan differ' make test-listings
+    without "the text of a plan" plans/merge.steps 'plans/merge.steps' make test-listings
+    without "the listing of a plan" plans/merge.listing 'plans/merge.listing' make test-listings
+    changed "what rt expects of the listing program" crates/listing/stdout '1s/1/2/' 'crates/listing/stdout differ' make test-listings
+    changed "what rt expects of the program vectors" crates/vectors/stdout '2s/1/2/' 'crates/vectors/stdout' make test-vectors
+    printf '#!/bin/sh\n%s\nexit 3\n' "$PWD/target/bin/listing" >"$work/bin/ends-badly" && chmod +x "$work/bin/ends-badly"
+    fails "a listing program that ends with 3" 'plans/merge.plan is not listed' tests/listings.sh "$work/bin/ends-badly"
+}
+
+apart() {
+    changed "a value that the simulator's tests expect" simulator/tests/cases.rs '0,/assert_eq!(answer, 0)/s//assert_eq!(answer, 1)/' 'test failed' make test-simulator
+    changed "the twin" bench/twin.c 's/MOST_TURNS = 65535,/MOST_TURNS = 65534,/' 'expected: 0, got: 12' make test-twin
+    changed "the table of mutants, without a fault" tests/differential/mutants '/^== step-129$/,/^$/d' 'faults' tests/mutants.sh 100
+    changed "an input of the corpus" tests/fuzz/corpus/raw-race 's/M/N/' 'not those of tests/fuzz/corpus.sum: 458' make test-fuzz
+    without "an input of the corpus, lost" tests/fuzz/corpus/raw-race 'not those of tests/fuzz/corpus.sum: 457' make test-fuzz
+    cp -rp tests/fuzz/corpus "$work/kept"
+    for input in tests/fuzz/corpus/*; do : >"$input"; done
+    fails "a corpus of empty inputs" 'not those of tests/fuzz/corpus.sum: 458' make test-fuzz
+    rm -r tests/fuzz/corpus && mv "$work/kept" tests/fuzz/corpus
+}
+
+# The twin under the library's names, with the fault that a woken worker comes into the next round.
+wrong_archive() {
+    cp -p "$archive" "$work/right/"
+    sed 's/put_behind_first(&e->list, woken);/push(\&e->next, woken);/' bench/twin.c >"$work/twin.c"
+    gcc -std=c99 -O1 -w -I bench -Dtwin_check=tampermauve_check -Dtwin_run=tampermauve_run -c "$work/twin.c" -o "$work/twin.o" || exit 2
+    rm "$archive" && ar rcs "$archive" "$work/twin.o" || exit 2
+}
+
+right_archive() {
+    mv "$work/right/libtampermauve.a" "$archive" && touch "$archive"
+}
+
+archives() {
+    wrong_archive
+    fails "a wrong archive beside the simulator" 'a small call with a difference' make test-differential
+    fails "a wrong archive on the kept inputs" 'the library differs from the simulator' make test-fuzz
+    fails "a wrong archive in the C tests" 'FAILED: case 9' make test-c-run
+    right_archive
+}
+
+# ---- docs/PROMISES.md, held against what is there
+
+promises() {
+    local page=docs/PROMISES.md edits=crates/pages/must-fail
+    changed "a definition that is not there" $page 's/`Refusals.numberOf`/`Refusals.numbersOf`/' '`Refusals.numbersOf` names nothing' make test-promises
+    changed "a theorem that is not there" $page 's/`proofs\/Formed.runnable`/`proofs\/Formed.running`/' '`proofs/Formed.running` names nothing' make test-promises
+    changed "a contract that is not there" $page 's/`plan::decode::pair`/`plan::decode::pairs`/' '`plan::decode::pairs` names nothing' make test-promises
+    changed "a test that is not there" $page 's/| `lengths` |/| `length` |/' '`length` names nothing' make test-promises
+    changed "an edit that is not there" $page 's/`pages\/clear-one-byte`/`pages\/clear-two-bytes`/' '`pages/clear-two-bytes` names nothing' make test-promises
+    changed "a definition renamed" crates/protocol/specs/Refusals.antt 's/numberOf/numbersOf/' '`numberOf` names nothing' make test-promises
+    changed "a test renamed" tests/check.c 's/\blengths(/all_lengths(/' '`lengths` names nothing' make test-promises
+    without "an edit, lost" $edits/clear-one-byte.edit '`pages/clear-one-byte` names nothing' make test-promises
+    without "the edits of a crate, lost" $edits '`pages/discard-of-others` names nothing' make test-promises
+    cp $edits/clear-one-byte.edit $edits/clear-no-byte.edit
+    fails "an edit that no row cites" 'no row cites the edit pages/clear-no-byte' make test-promises
+    rm $edits/clear-no-byte.edit
+}
+
+# ---- the gate
+
+# An rt that proves nothing and says what rt ci would say of the crates and edits that it finds.
+write_rt() { # STATUS [AXIOMS]
+    cat >"$work/bin/rt" <<STUB
+#!/usr/bin/env bash
+[ "\$1" = version ] && { grep -v '^#' "$work/copy/toolchain.txt"; exit; }
+[ "\$1" = ci ] || exit 2
+crates=\$(grep -c '^[a-z]' crates.txt)
+edits=\$(ls crates/*/must-fail/*.edit | wc -l)
+echo "logic=proved functions=1 ${2:-}"
+echo "rt: pages proved (1 s)"
+echo "rt: ok, \$crates crates proved, \$edits must-fail edits refused"
+echo "\$((crates + edits)) passed, 0 failed"
+exit $1
+STUB
+    chmod +x "$work/bin/rt"
+}
+
+# Prints what a command prints, and ends with 0 just when its last line is the gate's good one.
+passes() { # COMMAND...
+    PATH=$work/bin:$PATH "$@" 2>&1 | tee "$work/gate"
+    tail -n 1 "$work/gate" | grep -qxE '[0-9]+ passed, 0 failed'
+}
+
+gate_tests() {
+    local failed='ci: FAILED: a test failed' missing='ci: FAILED: a test did not run'
+    changed "the gate with a failing test" tests/check.c "$expected" "$failed" passes .ci/run
+    changed "make -i test with a failing test" tests/check.c "$expected" "$failed" passes make -i test
+    changed "make test C_TESTS= with a failing test" tests/check.c "$expected" "$failed" passes make test C_TESTS=
+    changed "MAKEFLAGS=n with a failing test" tests/check.c "$expected" "$failed" passes env MAKEFLAGS=n .ci/run
+    changed "the gate without most of its tests" Makefile 's/^TESTS = .*/TESTS = test-promises/' "$missing" passes .ci/run
+    changed "the gate with one C test less" Makefile 's/^C_TESTS = check run/C_TESTS = run/' 'printed 0 times and not 3 times: check' passes .ci/run
+    changed "the gate with fewer random calls" Makefile 's/^COUNT = 250000/COUNT = 2500/' 'printed 0 times and not 1 times: no difference: engine library' passes .ci/run
+    wrong_archive
+    changed "TAMPERMAUVE_LIB names the right archive" Makefile 's/^TESTS = .*/TESTS = test-differential/' 'a small call with a difference' \
+        passes env TAMPERMAUVE_LIB="$work/right" .ci/run
+    right_archive
+}
+
+gate_proofs() {
+    local edits=crates/pages/must-fail
+    mv $edits $edits.away
+    fails "the gate with a folder of edits renamed" 'must-fail edits, but rt ci says' passes .ci/run
+    mv $edits.away $edits
+    without "the gate with a folder of edits lost" $edits 'ci: FAILED: a test failed' passes .ci/run
+    write_rt 1
+    fails "an rt ci that prints the line and ends with 1" 'ci: FAILED: rt ci ended with status 1' passes .ci/run
+    write_rt 0 axioms=1
+    fails "a library crate proved with an axiom" 'ci: FAILED: the library crate pages is proved with axioms' passes .ci/run
+    sed -i 's/^\[ "$1" = version \].*/[ "$1" = version ] \&\& { echo another; exit; }/' "$work/bin/rt"
+    fails "another toolchain" 'ci: FAILED: the toolchain' passes .ci/run
+}
+
+# With nothing broken the gate passes, so that what is seen is what was broken.
+write_rt 0
+passes .ci/run >/dev/null || { cat "$work/gate"; echo "broken: the gate fails with nothing broken" >&2; exit 2; }
+
+c_tests
+listings
+apart
+archives
+promises
+gate_tests
+gate_proofs
+echo "$seen of $tried seen"
+[ "$seen" -eq "$tried" ]
