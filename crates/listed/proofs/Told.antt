@@ -23,9 +23,10 @@ use Rattle.protocol.proofs.Demand3.{demand3-file}
 use Rattle.protocol.proofs.Logged.{played-rounds}
 use Rattle.listed.specs.Listed.{listedRun, Listed}
 use Rattle.tampermauve.proofs.Admitting.{none-refused}
-use Rattle.listed.specs.Text.{Wrote, WroteListing, entriesFrom, endBy, lastLine}
+use Rattle.text.specs.Text.{Wrote, entriesFrom, endBy, lastLine}
+use Rattle.listed.specs.Text.{WroteListing}
 use Rattle.listed.proofs.Ended.{whole-cycles}
-use Rattle.listed.proofs.Entries.{entries-back}
+use Rattle.text.proofs.Entries.{entries-back}
 
 pub refused-text : (file : List ℕ) (r : ℕ) → r ≡ codeOf (check file) → (r ≡ 0 → ⊥) → refusalLine (r % 256) (r / 256) ≡ listing file
 unfolding listing

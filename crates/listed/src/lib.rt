@@ -1,15 +1,13 @@
 // A plan's listing: its run from zero memory, as lines of text.
-mod lines;
 mod run;
-pub mod text;
 mod turns;
 
-use crate::lines::write_end;
-use crate::lines::write_log;
-use crate::lines::write_refusal;
 use crate::run::run_listed;
 use libc::STDOUT_FILENO;
 use plan::decode::pair;
+use text::lines::write_end;
+use text::lines::write_log;
+use text::lines::write_refusal;
 ghost use mathlib.Core.Path.{_≡_};
 ghost use Prim.Native.Nat.{_≤_};
 ghost use lib.ListN.{length, replicate};

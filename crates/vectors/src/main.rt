@@ -5,9 +5,9 @@ mod memory;
 use crate::memory::memory_sum;
 use libc::STDOUT_FILENO;
 use listed::list;
-use listed::text::write_bytes;
-use listed::text::write_line;
 use plan::decode::pair;
+use text::write_bytes;
+use text::write_line;
 ghost use Prim.Native.Nat.{_≤_};
 ghost use lib.ListN.{length};
 

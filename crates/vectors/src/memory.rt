@@ -1,5 +1,5 @@
 // A number that shows any change of one byte of the memory.
-use listed::text::wide;
+use text::wide;
 ghost use mathlib.Core.Path.{_≡_};
 ghost use Rattle.protocol.specs.Calls.{memorySize};
 ghost use Rattle.vectors.specs.Sum.{weighed};

@@ -1,7 +1,7 @@
 use borrow.Author.Needs.{needs}
 use native.Mathlib.Omega.{arith}
 use Prim.Native.Nat.{_≤_}
-use Rattle.listed.proofs.Writing.{wrote-length, wrote-as, wrote-both}
+use Rattle.text.proofs.Writing.{wrote-length, wrote-as, wrote-both}
 use Rattle.listed.proofs.Told.{Told, refused-text, accepted-text, written}
 use Rattle.listed.proofs.write_listing.Statement.{statement}
 use Rattle.listed.proofs.write_listing.Tie as tie

@@ -6,8 +6,8 @@ use mathlib.Core.List.{[], _∷_}
 use lib.ListN.{length}
 use lib.Seq.{length-take-le}
 use Rattle.protocol.specs.Listing.{line}
-use Rattle.listed.proofs.Writing.{wrote-length}
-use Rattle.listed.proofs.Numbers.{number-length}
+use Rattle.text.proofs.Writing.{wrote-length}
+use Rattle.text.proofs.Numbers.{number-length}
 use Rattle.vectors.proofs.print_line.Statement.{statement}
 use Rattle.vectors.proofs.print_line.Tie as tie
 

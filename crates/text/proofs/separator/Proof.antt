@@ -2,8 +2,8 @@ use mathlib.Core.Path.{sym, ap}
 use lib.ListN.{drop-of-length-le}
 use lib.Seq.{drop-cons}
 use Rattle.protocol.specs.Listing.{separator}
-use Rattle.listed.proofs.text.separator.Statement.{statement}
-use Rattle.listed.proofs.text.separator.Tie as tie
+use Rattle.text.proofs.separator.Statement.{statement}
+use Rattle.text.proofs.separator.Tie as tie
 
 returns : tie.Need-returns
 returns c = sym (ap separator (drop-cons _ _ 0 (c .if1 .taken)))

@@ -1,13 +1,13 @@
 // The lines of a listing.
-use crate::text::wide;
-use crate::text::write_bytes;
-use crate::text::write_line;
+use crate::wide;
+use crate::write_bytes;
+use crate::write_line;
 use plan::decode::pair;
 ghost use mathlib.Core.List.{[], _∷_, _++_};
 ghost use Prim.Native.Nat.{_+_, _*_, _/_, _%_, _≤_};
 ghost use lib.ListN.{length};
 ghost use Rattle.protocol.specs.Listing.{space, recordLine, logLines, endWord, refusalLine};
-ghost use Rattle.listed.specs.Text.{Wrote, entryAt, entriesFrom, endBy, lastLine};
+ghost use Rattle.text.specs.Text.{Wrote, entryAt, entriesFrom, endBy, lastLine};
 
 // Round, worker, op, number and outcome of the record at a position of the log.
 fn write_record(log: &[u8], position: usize, text: &mut [u8], at: usize) -> usize

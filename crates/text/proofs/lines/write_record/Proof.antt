@@ -4,10 +4,10 @@ use Prim.Native.Nat.{_≤_}
 use mathlib.Core.List.{[], _∷_}
 use lib.ListN.{length}
 use Rattle.protocol.specs.Listing.{line}
-use Rattle.listed.proofs.Writing.{wrote-as}
-use Rattle.listed.proofs.Numbers.{record-length, record-line}
-use Rattle.listed.proofs.lines.write_record.Statement.{statement}
-use Rattle.listed.proofs.lines.write_record.Tie as tie
+use Rattle.text.proofs.Writing.{wrote-as}
+use Rattle.text.proofs.Numbers.{record-length, record-line}
+use Rattle.text.proofs.lines.write_record.Statement.{statement}
+use Rattle.text.proofs.lines.write_record.Tie as tie
 
 add-pair : tie.Need-add-pair
 add-pair c = search needs

@@ -5,9 +5,9 @@ use mathlib.Core.Path.{refl}
 use mathlib.Core.List.{[], _∷_}
 use lib.ListN.{length, getD, drop, drop-of-length-le}
 use lib.Seq.{drop-cons}
-use Rattle.listed.proofs.Writing.{Left, all-left, left-as, room-left, less-left, none-left, left-length}
-use Rattle.listed.proofs.text.write_bytes.Statement.{statement}
-use Rattle.listed.proofs.text.write_bytes.Tie as tie
+use Rattle.text.proofs.Writing.{Left, all-left, left-as, room-left, less-left, none-left, left-length}
+use Rattle.text.proofs.write_bytes.Statement.{statement}
+use Rattle.text.proofs.write_bytes.Tie as tie
 
 abbrev Inv-loop : tie.InvT-loop
 Inv-loop bytes text₀ at end₀ i₀ text end i = Left text₀ at bytes text end (drop i bytes)

@@ -1,11 +1,13 @@
-// Text in a lent slice. Each function writes from a place on and returns the place behind what it wrote.
+// Text in a lent slice: numbers, lines, and the lines of a listing. Each function writes from a place on and returns the place behind what it wrote.
+pub mod lines;
+
 ghost use mathlib.Core.Path.{_≡_};
 ghost use mathlib.Core.List.{[], _∷_};
 ghost use Prim.Native.Nat.{_+_, _≤_, _<_};
 ghost use lib.ListN.{length, drop};
 ghost use Rattle.protocol.specs.Listing.{decimal, line};
 ghost use Rattle.protocol.specs.Listing.{separator as Listing·separator};
-ghost use Rattle.listed.specs.Text.{Wrote};
+ghost use Rattle.text.specs.Text.{Wrote};
 
 // A byte as one of a line's numbers.
 pub fn wide(byte: u8) -> u64

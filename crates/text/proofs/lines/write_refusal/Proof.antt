@@ -4,10 +4,10 @@ use Prim.Native.Nat.{_/_, _%_, _≤_}
 use mathlib.Core.List.{[], _∷_}
 use lib.ListN.{length}
 use Rattle.protocol.specs.Listing.{line, refusalLine}
-use Rattle.listed.proofs.Writing.{wrote-length, wrote-both}
-use Rattle.listed.proofs.Numbers.{refusal-length}
-use Rattle.listed.proofs.lines.write_refusal.Statement.{statement}
-use Rattle.listed.proofs.lines.write_refusal.Tie as tie
+use Rattle.text.proofs.Writing.{wrote-length, wrote-both}
+use Rattle.text.proofs.Numbers.{refusal-length}
+use Rattle.text.proofs.lines.write_refusal.Statement.{statement}
+use Rattle.text.proofs.lines.write_refusal.Tie as tie
 
 slice-aggregate-write-bytes : tie.Need-slice-aggregate-write-bytes
 slice-aggregate-write-bytes c = search needs

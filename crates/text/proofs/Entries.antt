@@ -10,7 +10,7 @@ use Rattle.protocol.specs.Report.{entryBytes, logBytes}
 use Rattle.protocol.specs.Listing.{recordLine, logLines}
 use Rattle.protocol.proofs.Bytes.{word-bytes}
 use Rattle.protocol.proofs.Logged.{Within, none, more}
-use Rattle.listed.specs.Text.{entryAt, entriesFrom}
+use Rattle.text.specs.Text.{entryAt, entriesFrom}
 
 -- a record in front moves each record behind it by its width
 entry-behind : (e : Entry) (log : List ℕ) (i : ℕ) → entryAt (entryBytes e ++ log) (8 * suc i) ≡ entryAt log (8 * i)

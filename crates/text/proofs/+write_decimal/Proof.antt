@@ -6,16 +6,16 @@ use mathlib.Core.Path.{ap}
 use mathlib.Core.List.{[], _∷_, _++_}
 use lib.ListN.{length}
 use Rattle.protocol.specs.Listing.{decimal}
-use Rattle.listed.proofs.Writing.{Left, all-left, room-left, less-left, none-left}
-use Rattle.listed.proofs.Digits.{last-digit, more-digits}
+use Rattle.text.proofs.Writing.{Left, all-left, room-left, less-left, none-left}
+use Rattle.text.proofs.Digits.{last-digit, more-digits}
 use borrow.Fn.Kinds.{In}
 use borrow.Fn.PlainCycle.{Measures, is, falls, and}
-use Rattle.listed.proofs.text.write_decimal.Reads as write-decimal
-use Rattle.listed.proofs.text.write_decimal.Kinds as write-decimal-kinds
-use Rattle.listed.proofs.text.+write_decimal.Lts-write_decimal as write-decimal-lts
-use Rattle.listed.proofs.text.write_byte.Reads as write-byte-reads
-use Rattle.listed.proofs.text.+write_decimal.{statement}
-use Rattle.listed.proofs.text.+write_decimal.Tie.{close}
+use Rattle.text.proofs.write_decimal.Reads as write-decimal
+use Rattle.text.proofs.write_decimal.Kinds as write-decimal-kinds
+use Rattle.text.proofs.+write_decimal.Lts-write_decimal as write-decimal-lts
+use Rattle.text.proofs.write_byte.Reads as write-byte-reads
+use Rattle.text.proofs.+write_decimal.{statement}
+use Rattle.text.proofs.+write_decimal.Tie.{close}
 
 abbrev μ-write-decimal : Measures 1 write-decimal-kinds.ps ℕ
 μ-write-decimal κs a = a .0

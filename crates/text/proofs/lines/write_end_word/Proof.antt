@@ -6,9 +6,9 @@ use mathlib.Core.List.{[], _∷_, _++_}
 use borrow.Author.Tests.{eq-eqb, ne-eqb}
 use Rattle.protocol.specs.Report.{finished, stuck}
 use Rattle.protocol.specs.Listing.{space, endWord}
-use Rattle.listed.proofs.Writing.{wrote-as}
-use Rattle.listed.proofs.lines.write_end_word.Statement.{statement}
-use Rattle.listed.proofs.lines.write_end_word.Tie as tie
+use Rattle.text.proofs.Writing.{wrote-as}
+use Rattle.text.proofs.lines.write_end_word.Statement.{statement}
+use Rattle.text.proofs.lines.write_end_word.Tie as tie
 
 slice-aggregate-write-bytes : tie.Need-slice-aggregate-write-bytes
 slice-aggregate-write-bytes c = search needs

@@ -4,10 +4,10 @@ use mathlib.Core.Path.{refl, ap}
 use mathlib.Core.List.{[], _∷_}
 use lib.ListN.{length, drop, drop-of-length-le}
 use Rattle.protocol.specs.Listing.{decimal, line}
-use Rattle.listed.proofs.Writing.{Left, all-left, left-as, room-left, less-left, none-left, left-length}
-use Rattle.listed.proofs.Numbers.{number-left, separator-left}
-use Rattle.listed.proofs.text.write_line.Statement.{statement}
-use Rattle.listed.proofs.text.write_line.Tie as tie
+use Rattle.text.proofs.Writing.{Left, all-left, left-as, room-left, less-left, none-left, left-length}
+use Rattle.text.proofs.Numbers.{number-left, separator-left}
+use Rattle.text.proofs.write_line.Statement.{statement}
+use Rattle.text.proofs.write_line.Tie as tie
 
 abbrev Inv-loop : tie.InvT-loop
 Inv-loop numbers text₀ at end₀ next₀ text end next = Left text₀ at (line numbers) text end (line (drop next numbers))

@@ -1,9 +1,9 @@
 use borrow.Author.Needs.{needs}
 use native.Mathlib.Omega.{arith}
-use Rattle.listed.proofs.Writing.{wrote-length, wrote-as, wrote-both}
-use Rattle.listed.proofs.Numbers.{moves-length, end-line}
-use Rattle.listed.proofs.lines.write_end.Statement.{statement}
-use Rattle.listed.proofs.lines.write_end.Tie as tie
+use Rattle.text.proofs.Writing.{wrote-length, wrote-as, wrote-both}
+use Rattle.text.proofs.Numbers.{moves-length, end-line}
+use Rattle.text.proofs.lines.write_end.Statement.{statement}
+use Rattle.text.proofs.lines.write_end.Tie as tie
 
 element-copy-out-pair : tie.Need-element-copy-out-pair
 element-copy-out-pair c = search needs

@@ -3,11 +3,11 @@ use native.Mathlib.Omega.{arith}
 use Prim.Native.Nat.{ℕ, _+_, _-_, _*_, _≤_}
 use mathlib.Core.Path.{_≡_, ap}
 use Rattle.protocol.specs.Listing.{recordLine, logLines}
-use Rattle.listed.specs.Text.{entriesFrom}
-use Rattle.listed.proofs.Writing.{Left, all-left, left-as, less-left, none-left, left-length}
-use Rattle.listed.proofs.Entries.{next-entry}
-use Rattle.listed.proofs.lines.write_log.Statement.{statement}
-use Rattle.listed.proofs.lines.write_log.Tie as tie
+use Rattle.text.specs.Text.{entriesFrom}
+use Rattle.text.proofs.Writing.{Left, all-left, left-as, less-left, none-left, left-length}
+use Rattle.text.proofs.Entries.{next-entry}
+use Rattle.text.proofs.lines.write_log.Statement.{statement}
+use Rattle.text.proofs.lines.write_log.Tie as tie
 
 abbrev Inv-loop : tie.InvT-loop
 Inv-loop log records text₀ at end₀ i₀ text end i =

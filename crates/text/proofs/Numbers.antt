@@ -10,8 +10,8 @@ use lib.Seq.{drop-cons}
 use Rattle.protocol.specs.Rounds.{Entry}
 use Rattle.protocol.specs.Report.{End}
 use Rattle.protocol.specs.Listing.{decimal, space, separator, line, recordLine, endWord, endLine}
-use Rattle.listed.proofs.Writing.{Left, left-as}
-use Rattle.listed.proofs.Digits.{few-digits}
+use Rattle.text.proofs.Writing.{Left, left-as}
+use Rattle.text.proofs.Digits.{few-digits}
 
 module _ {before : List ℕ} {at : ℕ} {whole text : List ℕ} {end : ℕ} (ns : List ℕ) (i : ℕ) where
   -- a line from its number i on is left to write
