@@ -1,4 +1,5 @@
--- Document 01, "Plans to check against": cases 1 to 10 as one table, each with the bytes that it leaves, worked out by hand.
+-- Document 01, "Plans to check against": cases 1 to 10 as one table, each with the bytes that it leaves, worked out by hand. Behind them
+-- stands a plan of our own, for a sentence that none of the ten shows.
 use Prim.Native.Nat.{ℕ, _-_, _/_, _%_}
 use mathlib.Core.List.{List, [], _∷_, _++_}
 use lib.ListN.{length, replicate}
@@ -138,4 +139,8 @@ cases =
     (report 1 2 12 2 8 (both 1 1))
     -- 10: "The plan of case 1 with no turns: going, no log."
     ∷ case race [] nothing [] [] (report 0 2 0 0 0 (both 0 0))
+    -- "Each worker has four 16-bit registers, zero at first": one worker stores all four, over eights.
+    ∷ case (planRec 1 ++ rec 0 18 0 0 ++ rec 0 18 1 2 ++ rec 0 18 2 4 ++ rec 0 18 3 6) (replicate 8 8) listing []
+    (entry 1 0 38 0 255)
+    (report 1 1 6 1 1 (one 1))
     ∷ []
