@@ -177,6 +177,16 @@ soak: $(LIB)
 mutants:
 	tests/mutants.sh
 
+# the rewrite beside each must-fail edit that changes nothing must be accepted
+.PHONY: controls
+controls:
+	tests/controls.sh
+
+# each test fails where what it looks at is broken, and the gate where it was once fooled
+.PHONY: broken
+broken: all
+	tests/broken.sh
+
 # needs clang with libFuzzer
 .PHONY: fuzz
 fuzz: $(LIB)
