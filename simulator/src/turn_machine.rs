@@ -17,7 +17,7 @@
 //!   lie in different pages.
 
 use crate::check::{Plan, Step};
-use crate::counts::Counts;
+use crate::counts::{Counts, Move, Sight, Stand};
 use crate::format::{LOG_MARK, LOG_RECORD_LENGTH, MOST_WORKERS, OP_EXIT, REPORT_LENGTH};
 use crate::outcome::Outcome;
 
@@ -49,6 +49,8 @@ enum Fate {
 struct Worker {
     place: usize,
     registers: [u16; 4],
+    /// Registers that have been given a value; only counts need it.
+    known: [bool; 4],
     count: u8,
     copies: [Option<Box<PageCopy>>; PAGES],
     arrived: bool,
@@ -60,6 +62,7 @@ impl Worker {
         Worker {
             place: 0,
             registers: [0; 4],
+            known: [false; 4],
             count: 0,
             copies: Default::default(),
             arrived: false,
@@ -112,6 +115,15 @@ impl Worker {
         }
     }
 
+    /// What counts need to know of a step on registers or memory.
+    fn sight(&self) -> Sight {
+        Sight {
+            registers: self.registers,
+            known: self.known,
+            copied: self.copies.each_ref().map(Option::is_some),
+        }
+    }
+
     fn drop_copies(&mut self) {
         self.copies = Default::default();
     }
@@ -121,6 +133,7 @@ impl Worker {
         let own = usize::from(step.register);
         let number = usize::from(step.number);
         self.place += 1;
+        self.known[own] |= matches!(step.op, 16 | 17 | 19 | 20);
         match step.op {
             16 => self.registers[own] = step.number,
             17 => self.registers[own] = self.load(shared, number),
@@ -172,6 +185,10 @@ pub struct Machine<'a> {
     log: Vec<u8>,
     end: End,
     counts: Counts,
+    /// Turns played, and the number of the one that moved last; only counts
+    /// need them.
+    turns: usize,
+    last_moved: usize,
 }
 
 impl<'a> Machine<'a> {
@@ -189,6 +206,8 @@ impl<'a> Machine<'a> {
             log: Vec::new(),
             end: End::Going,
             counts: Counts::default(),
+            turns: 0,
+            last_moved: 0,
         }
     }
 
@@ -204,11 +223,15 @@ impl<'a> Machine<'a> {
 
     /// Plays one turn and says whether it moved.
     pub fn turn(&mut self, worker: usize) -> bool {
-        let moved = self.try_move(worker);
-        if moved {
+        self.turns += 1;
+        let made = self.try_move(worker);
+        if let Some(made) = made {
             self.moves += 1;
+            self.last_moved = self.turns;
+            let ended = self.end != End::Going;
+            self.counts.limits.moved(self.turns, made, ended);
         }
-        moved
+        made.is_some()
     }
 
     /// Memory, log and report as they stand.
@@ -231,48 +254,71 @@ impl<'a> Machine<'a> {
         self.plan.steps[worker].get(place).copied().unwrap_or(end)
     }
 
-    fn try_move(&mut self, worker: usize) -> bool {
+    fn try_move(&mut self, worker: usize) -> Option<Move> {
         if self.end != End::Going {
             self.counts.passes_behind_end += 1;
-            return false;
+            return None;
         }
         if !self.list.contains(&worker) {
             self.counts.passes_out_of_list += 1;
-            return false;
+            return None;
         }
         let fence_full = self.list.iter().all(|&each| self.workers[each].arrived);
         if fence_full && self.list[0] != worker {
             self.counts.passes_without_token += 1;
-            return false;
+            return None;
         }
         if !fence_full && self.workers[worker].arrived {
             self.counts.passes_at_fence += 1;
-            return false;
+            return None;
         }
         let step = self.at_hand(worker);
         match (step.op >= 32, fence_full) {
-            (false, _) => self.plain_step(worker, step),
+            (false, _) => {
+                self.plain_step(worker, step);
+                Some(Move::OwnStep)
+            }
             (true, false) => {
                 self.workers[worker].arrived = true;
                 self.counts.arrivals += 1;
+                Some(Move::Arrival)
             }
-            (true, true) => self.token_step(worker, step),
+            (true, true) => {
+                self.token_step(worker, step);
+                Some(Move::Synchronising)
+            }
         }
-        true
+    }
+
+    /// Where a worker stands, as counts need to know it.
+    fn stand(&self, worker: usize) -> Stand {
+        Stand {
+            worker,
+            workers: self.workers.len(),
+            place: self.workers[worker].place,
+            length: self.plan.steps[worker].len(),
+            count: self.workers[worker].count,
+        }
     }
 
     /// A step on registers or memory, by a runner or by the holder.
     fn plain_step(&mut self, worker: usize, step: Step) {
+        let stand = self.stand(worker);
         let own = &mut self.workers[worker];
-        self.counts.plain(step, own.registers);
+        self.counts.plain(stand, step, &own.sight());
         own.plain(&self.shared, step);
+        if step.op == 18 && self.workers.len() == MOST_WORKERS {
+            let copies = self.workers.iter().flat_map(|each| &each.copies);
+            self.counts.limits.copies(copies.flatten().count());
+        }
     }
 
     /// The holder carries out a synchronising step.
     fn token_step(&mut self, worker: usize, step: Step) {
-        let behind_last = self.workers[worker].place == self.plan.steps[worker].len();
-        self.counts.synchronising(step.op, behind_last);
+        let stand = self.stand(worker);
+        self.counts.synchronising(stand, step.op);
         let (outcome, token) = if self.fails(worker, step.op) {
+            self.counts.limits.failed(stand, step.op);
             self.fail(worker)
         } else {
             self.workers[worker].place += 1;
@@ -318,12 +364,14 @@ impl<'a> Machine<'a> {
             self.commit(worker);
         }
         self.workers[worker].count += 1;
+        self.counts.limits.counted(32, self.workers[worker].count);
         (self.workers[worker].count, Token::Keep)
     }
 
     fn unlock(&mut self, worker: usize) -> (u8, Token) {
         self.workers[worker].count -= 1;
         let count = self.workers[worker].count;
+        self.counts.limits.counted(33, count);
         if count > 0 {
             return (count, Token::Keep);
         }
@@ -333,6 +381,7 @@ impl<'a> Machine<'a> {
 
     fn wait(&mut self, worker: usize, condition: u16) -> (u8, Token) {
         self.commit(worker);
+        self.counts.limits.waits(self.workers[worker].count);
         self.workers[worker].fate = Fate::OnCondition;
         self.parked.push((Spot::Condition(condition), worker));
         (NOBODY, Token::Leave)
@@ -344,6 +393,8 @@ impl<'a> Machine<'a> {
         let first = self.parked.iter().position(|&(at, _)| at == spot);
         let woken = first.map(|position| self.parked.remove(position).1);
         if let Some(waiter) = woken {
+            let kept = self.workers[waiter].count;
+            self.counts.limits.woken(kept, self.list.len());
             self.workers[waiter].fate = Fate::Going;
             self.list.insert(1, waiter);
         }
@@ -461,5 +512,7 @@ pub fn play_counted(plan: &Plan, memory: &[u8], turns: &[u8]) -> (Outcome, Count
     for &turn in turns {
         machine.turn(usize::from(turn));
     }
+    let last_moved = machine.last_moved;
+    machine.counts.limits.played(turns.len(), last_moved);
     (machine.outcome(), machine.counts)
 }

@@ -1,0 +1,149 @@
+//! The limits of the paper that neither log nor report of a run shows, or
+//! not without the plan beside them.
+
+use crate::counts::board::Row;
+use crate::counts::{PLAIN, SYNCHRONISING};
+
+/// A row of limits.
+#[derive(Clone, Copy, Debug, PartialEq, Eq)]
+pub enum Limit {
+    OpsOfEight,
+    LastStep,
+    NoStep,
+    Border,
+    Edge,
+    PageStore,
+    AllCopied,
+    UnknownRegister,
+    Sum,
+    ExactWrap,
+    Skip,
+    SkipToEnd,
+    Lock,
+    Unlock,
+    FailedBarrier,
+    FailedExit,
+    FailedEnd,
+    Wait,
+    Waking,
+    WokenInto,
+    LastTurn,
+    TurnBeforeLast,
+}
+
+/// A row and the place in it of a limit that was met.
+pub type Met = (Limit, u16);
+
+const fn row(name: &'static str, members: usize, named: fn(usize) -> String) -> Row {
+    Row {
+        name,
+        members,
+        named,
+    }
+}
+
+/// The rows, in the order of `Limit`.
+pub const ROWS: [Row; 22] = [
+    row("step by op and worker, eight workers", 112, op_and_worker),
+    row("128th step", 8, worker),
+    row("end without a step", 8, worker),
+    row("word over a page border", 56, border),
+    row("first or last byte of a page", 32, edge),
+    row("store by page and worker", 64, page_and_worker),
+    row("eight pages of eight workers copied at once", 1, itself),
+    row("store of a register never set", 32, register_and_worker),
+    row("sum or difference by registers", 32, registers),
+    row("65,535 + 1 or 0 - 1", 2, exact_wrap),
+    row("skip by op, distance and whether taken", 506, skip),
+    row("skip just behind the last step, taken", 2, skip_op),
+    row("lock, count behind it", 128, from_one),
+    row("unlock, count behind it", 127, from_zero),
+    row("barrier failed, count", 127, from_one),
+    row("exit failed, count", 127, from_one),
+    row("end of steps failed, count", 128, from_one),
+    row("wait, count kept", 127, from_one),
+    row("woken, count kept", 127, from_one),
+    row("woken into a list, workers in it before", 7, from_one),
+    row("65,535th turn moved", 4, last_turn),
+    row("65,534th turn moved, the last one", 1, itself),
+];
+
+fn itself(_: usize) -> String {
+    "not met".to_string()
+}
+
+fn from_zero(place: usize) -> String {
+    place.to_string()
+}
+
+fn from_one(place: usize) -> String {
+    (place + 1).to_string()
+}
+
+fn worker(place: usize) -> String {
+    format!("worker {place}")
+}
+
+/// Names of the ops 16 to 22 and 32 to 38.
+fn op_and_worker(place: usize) -> String {
+    let ops = [PLAIN, SYNCHRONISING].concat();
+    format!("{}, worker {}", ops[place % 14], place / 14)
+}
+
+const LOAD_STORE: [&str; 2] = ["load", "store"];
+const COPIED: [&str; 4] = ["neither", "the lower", "the upper", "both"];
+
+fn border(place: usize) -> String {
+    let address = 255 + 256 * (place / 4 % 7);
+    let op = LOAD_STORE[place / 28];
+    format!("{op} at {address}, copied: {}", COPIED[place % 4])
+}
+
+fn edge(place: usize) -> String {
+    let address = place / 2 % 8 * 256 + place % 2 * 255;
+    format!("{} of byte {address}", LOAD_STORE[place / 16])
+}
+
+fn page_and_worker(place: usize) -> String {
+    format!("page {}, worker {}", place % 8, place / 8)
+}
+
+fn register_and_worker(place: usize) -> String {
+    format!("register {}, worker {}", place % 4, place / 4)
+}
+
+fn registers(place: usize) -> String {
+    let op = PLAIN[3 + place / 16];
+    format!("{op}, registers {} and {}", place / 4 % 4, place % 4)
+}
+
+fn exact_wrap(place: usize) -> String {
+    ["65,535 + 1", "0 - 1"][place].to_string()
+}
+
+/// Only a first step can skip 127, and it finds zero in every register.
+fn skip(place: usize) -> String {
+    let (which, place) = (place / 253, place % 253);
+    let far = place / 2 + 1;
+    let taken = if far == 127 {
+        which == 0
+    } else {
+        place % 2 == 1
+    };
+    let taken = if taken { "taken" } else { "not taken" };
+    format!("{}, {far}, {taken}", PLAIN[5 + which])
+}
+
+fn skip_op(place: usize) -> String {
+    PLAIN[5 + place].to_string()
+}
+
+fn last_turn(place: usize) -> String {
+    let names = [
+        "an own step",
+        "an arrival",
+        "a synchronising step, the plan goes on",
+        "a synchronising step, the plan has ended",
+    ];
+    names[place].to_string()
+}

@@ -1,0 +1,82 @@
+//! Every page border, every page's first and last byte, and all copies at
+//! once.
+
+use simulator::generate::draft::step;
+use simulator::generate::Draft;
+use simulator::Step;
+
+use super::{draft, played, Limit};
+
+pub fn all() -> Vec<Limit> {
+    let mut all = Vec::new();
+    for page in 0..7 {
+        for copied in 0..4 {
+            let load = over_border(page, copied, 17);
+            all.extend(played("a load over a page border", &load));
+            let store = over_border(page, copied, 18);
+            all.extend(played("a store over a page border", &store));
+        }
+    }
+    all.extend((0..8).flat_map(|page| played("the edges of a page", &edges(page))));
+    all.extend(played("all copies at once", &all_copies()));
+    all
+}
+
+/// Copies neither page at a border, the lower one (1), the upper one (2) or
+/// both, by a store beside the border. Then a word over the border is loaded,
+/// and kept where it shows, or stored. A second worker stores beside it.
+fn over_border(page: u16, copied: u16, op: u8) -> Draft {
+    let border = 256 * page + 255;
+    let mut own = vec![step(16, 1, 0xA1B2), step(16, 0, 0xC3D4)];
+    if copied & 1 != 0 {
+        own.push(step(18, 1, border - 1));
+    }
+    if copied & 2 != 0 {
+        own.push(step(18, 1, border + 1));
+    }
+    own.push(step(op, 0, border));
+    own.push(step(18, 0, 256 * page + 100));
+    own.push(step(17, 2, border + 1));
+    own.push(step(18, 2, 256 * page + 104));
+    let beside = [-6, 6].map(|far| step(18, 3, border.wrapping_add_signed(far)));
+    draft(&[], vec![own, beside.to_vec()])
+}
+
+/// Loads and stores of a page's first two and last two bytes.
+fn edges(page: u16) -> Draft {
+    let (first, last) = (256 * page, 256 * page + 254);
+    let own = vec![
+        step(17, 0, first),
+        step(17, 1, last),
+        step(16, 2, 0x5E6F),
+        step(18, 2, first),
+        step(18, 2, last),
+        step(18, 0, first + 50),
+        step(18, 1, first + 60),
+    ];
+    let seen = vec![
+        step(32, 0, 0),
+        step(17, 0, first),
+        step(17, 1, last),
+        step(18, 1, first + 70),
+        step(18, 0, first + 80),
+        step(33, 0, 0),
+    ];
+    draft(&[], vec![own, seen])
+}
+
+/// Each worker stores a word of its own in each page and loads it again, all
+/// of them before the first commit.
+fn all_copies() -> Draft {
+    draft(&[], (0..8).map(everywhere).collect())
+}
+
+fn everywhere(worker: u16) -> Vec<Step> {
+    let at = |page: u16| 256 * page + 16 * worker;
+    let word = |page: u16| 0x1000 * (worker + 1) + 0x11 * (page + 1);
+    let store = |page| [step(16, 0, word(page)), step(18, 0, at(page))];
+    let load = |page| [step(17, 1, at(page)), step(18, 1, at(page) + 4)];
+    let mut own: Vec<Step> = (0..8).flat_map(store).collect();
+    own.extend((0..8).flat_map(load));
+    own
+}

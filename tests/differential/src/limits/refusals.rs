@@ -1,0 +1,78 @@
+//! Refusals whose record index needs two bytes, up to the last record of the
+//! longest file.
+
+use simulator::format::{file_of, Record, MOST_STEPS};
+use simulator::generate::draft::step;
+use simulator::Step;
+
+use super::{draft, played, Limit};
+
+const INDICES: [usize; 4] = [255, 256, 257, 1_032];
+
+pub fn all() -> Vec<Limit> {
+    let mut files = Vec::new();
+    for index in INDICES {
+        files.extend(single_faults(index));
+        files.push(step_129(index));
+    }
+    for index in [255, 256, 257, 1_031] {
+        files.extend(bare_barriers(index));
+    }
+    let refused = |file| Limit::new("a refusal at a far record", file, vec![0]);
+    let mut all: Vec<Limit> = files.into_iter().map(refused).collect();
+    all.extend(played("the longest file", &longest(8)));
+    all
+}
+
+/// Eight workers with 128 steps, and so many barriers.
+fn longest(barriers: u8) -> simulator::generate::Draft {
+    let sizes: Vec<(u8, u16)> = (0..barriers).map(|barrier| (barrier, 8)).collect();
+    let own: Vec<Step> = vec![step(16, 3, 65_535); MOST_STEPS];
+    draft(&sizes, vec![own; 8])
+}
+
+fn with(index: usize, change: impl Fn(&mut Record)) -> Vec<u8> {
+    let mut records = longest(8).records();
+    change(&mut records[index]);
+    file_of(&records)
+}
+
+/// The longest file with each refusal but 8 and 9 at a record.
+fn single_faults(index: usize) -> Vec<Vec<u8>> {
+    vec![
+        with(index, |record| record.mark[0] = 0x4C),
+        with(index, |record| record.mark[1] = 0x4C),
+        with(index, |record| record.op = 0),
+        with(index, |record| record.op = 1),
+        with(index, |record| record.op = 39),
+        with(index, |record| record.worker = 8),
+        with(index, |record| record.worker -= 1),
+        with(index, |record| record.register = 4),
+        with(index, |record| (record.op, record.number) = (18, 2_047)),
+        with(index, |record| (record.op, record.number) = (21, 127)),
+        with(index, |record| (record.op, record.number) = (22, 127)),
+    ]
+}
+
+/// Full workers, one that is full but for the rest, and then one whose 129th
+/// step stands at the index, the last record of the file.
+fn step_129(index: usize) -> Vec<u8> {
+    let before = index - 8 - 129;
+    let mut plan = longest(8);
+    let (full, rest) = (before / MOST_STEPS, before % MOST_STEPS);
+    plan.steps[full].truncate(rest);
+    plan.steps[full + 1].push(step(32, 0, 0));
+    let mut records = plan.records();
+    records.truncate(index + 1);
+    file_of(&records)
+}
+
+/// A barrier without a size, with and without further records behind it.
+fn bare_barriers(index: usize) -> [Vec<u8>; 2] {
+    let mut records = longest(7).records();
+    (records[index].op, records[index].register) = (37, 0);
+    records[index].number = 7;
+    let cut = file_of(&records[..=index]);
+    records.push(Record::new(7, 16, 0, 0));
+    [cut, file_of(&records)]
+}
