@@ -53,7 +53,7 @@ pub struct Tally {
     fates: [u64; FATES.len()],
     run_answers: [u64; 14],
     check_answers: [u64; 11],
-    lists: [u64; TurnKind::ALL.len() + 2],
+    lists: [u64; TurnKind::ALL.len() + 3],
     plans: [u64; PlanKind::ALL.len()],
     late_rounds: u64,
     rounds: u64,
@@ -97,6 +97,7 @@ impl Tally {
             ListKind::Made(kind) => all.iter().position(|&each| each == kind),
             ListKind::TooLong => Some(all.len()),
             ListKind::Misnamed => Some(all.len() + 1),
+            ListKind::LastMoves => Some(all.len() + 2),
         };
         self.lists[place.expect("a kind of list")] += 1;
         let place = PlanKind::ALL.iter().position(|&each| each == plan);
@@ -144,7 +145,7 @@ impl Tally {
         rows.extend(named("end: ", &ENDS, &self.ends));
         rows.extend(named("fate: ", &FATES, &self.fates));
         let mut lists: Vec<String> = TurnKind::ALL.map(|kind| format!("{kind:?}")).to_vec();
-        lists.extend(["TooLong".to_string(), "Misnamed".to_string()]);
+        lists.extend(["TooLong", "Misnamed", "LastMoves"].map(str::to_string));
         rows.extend(named("turn list: ", &lists, &self.lists));
         let plans = PlanKind::ALL.map(|kind| format!("{kind:?}"));
         rows.extend(named("plan: ", &plans, &self.plans));
