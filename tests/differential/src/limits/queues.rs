@@ -30,6 +30,10 @@ pub fn all() -> Vec<Limit> {
         let again = (1..=6).map(|others| waits_again(others, op, locked));
         all.extend(again.flat_map(|draft| played("a wait behind others again", &draft)));
     }
+    for barriers in 2..=8 {
+        let draft = several_barriers(barriers);
+        all.extend(played("several barriers", &draft));
+    }
     for conditions in 2..=8 {
         let drafts = ORDERS.map(|order| several(conditions, order));
         let each = |draft| played("several conditions", draft);
@@ -150,4 +154,21 @@ fn several(conditions: u16, order: [usize; 8]) -> Draft {
         waker.extend(woken);
     }
     draft(&[(0, 1)], steps)
+}
+
+/// So many workers come to a barrier of two each, the highest numbers being
+/// in use; the others come to these barriers a round later, in another order.
+fn several_barriers(barriers: usize) -> Draft {
+    let name = |place: usize| (8 - barriers + place) as u16;
+    let mut steps = vec![Vec::new(); 8];
+    for (worker, own) in steps.iter_mut().enumerate() {
+        match worker < barriers {
+            true => own.push(step(37, 0, name(worker))),
+            false => own.extend([step(36, 0, 0), step(37, 0, name((7 - worker) % barriers))]),
+        }
+    }
+    let sizes: Vec<(u8, u16)> = (8 - barriers..8)
+        .map(|barrier| (barrier as u8, 2))
+        .collect();
+    draft(&sizes, steps)
 }

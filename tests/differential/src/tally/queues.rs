@@ -5,7 +5,7 @@ use simulator::counts::{Board, Row};
 const WAKERS: [&str; 2] = ["signal", "broadcast"];
 
 /// The rows.
-pub const ROWS: [Row; 10] = [
+pub const ROWS: [Row; 11] = [
     Row {
         name: "waiters on a condition",
         members: 64,
@@ -56,6 +56,11 @@ pub const ROWS: [Row; 10] = [
         members: 6,
         named: |place| (place + 2).to_string(),
     },
+    Row {
+        name: "barriers with queued workers at once",
+        members: 7,
+        named: |place| (place + 2).to_string(),
+    },
 ];
 
 /// The queues as a log leaves them.
@@ -75,6 +80,11 @@ fn out_of_order(queue: &[u8]) -> bool {
     !queue.is_sorted()
 }
 
+/// Count of queues with somebody in them.
+fn in_use(queues: &[Vec<u8>; 8]) -> usize {
+    queues.iter().filter(|queue| !queue.is_empty()).count()
+}
+
 impl Walk {
     /// Goes on by a log record.
     pub fn note(&mut self, board: &mut Board, record: &[u8]) {
@@ -83,7 +93,7 @@ impl Walk {
             (34..=37, 254) => {}
             (34, _) => self.wait(board, worker, number),
             (35 | 36, woken) if woken != 255 => self.wake(board, record),
-            (37, 0) => self.meeting[number].push(worker),
+            (37, 0) => self.meet(board, worker, number),
             (37, size) => self.fill(board, number, usize::from(size)),
             _ => {}
         }
@@ -100,10 +110,17 @@ impl Walk {
             board.count(8, 0);
         }
         self.last_wait = Some(condition);
-        let in_use = self.waiting.iter().filter(|queue| !queue.is_empty());
-        let in_use = in_use.count();
-        if in_use > 1 {
-            board.count(7, in_use - 2);
+        let at_once = in_use(&self.waiting);
+        if at_once > 1 {
+            board.count(7, at_once - 2);
+        }
+    }
+
+    fn meet(&mut self, board: &mut Board, worker: u8, barrier: usize) {
+        self.meeting[barrier].push(worker);
+        let at_once = in_use(&self.meeting);
+        if at_once > 1 {
+            board.count(10, at_once - 2);
         }
     }
 
