@@ -349,7 +349,11 @@ impl<'a> Machine<'a> {
             33 => self.unlock(worker),
             34 => self.wait(worker, step.number),
             // A broadcast is as a signal: it wakes the first waiter alone.
-            35 | 36 => self.signal(worker, step.number),
+            35 | 36 => {
+                let count = self.workers[worker].count;
+                self.counts.limits.signals(step.op, count);
+                self.signal(worker, step.number)
+            }
             37 => self.barrier(worker, step.number),
             _ => self.exit(worker),
         }

@@ -29,6 +29,9 @@ pub enum Limit {
     WokenInto,
     LastTurn,
     TurnBeforeLast,
+    Set,
+    OpsByRegister,
+    CountedSignal,
 }
 
 /// A row and the place in it of a limit that was met.
@@ -43,7 +46,7 @@ const fn row(name: &'static str, members: usize, named: fn(usize) -> String) -> 
 }
 
 /// The rows, in the order of `Limit`.
-pub const ROWS: [Row; 22] = [
+pub const ROWS: [Row; 25] = [
     row("step by op and worker, eight workers", 112, op_and_worker),
     row("128th step", 8, worker),
     row("end without a step", 8, worker),
@@ -66,7 +69,13 @@ pub const ROWS: [Row; 22] = [
     row("woken into a list, workers in it before", 7, from_one),
     row("65,535th turn moved", 4, last_turn),
     row("65,534th turn moved, the last one", 1, itself),
+    row("number set", SET.len(), |place| SET[place].to_string()),
+    row("own step by op and register", 28, op_and_register),
+    row("signal or broadcast, count", 254, signal_and_count),
 ];
+
+/// Numbers at the limits of a byte, of a sign and of a register.
+pub const SET: [u16; 7] = [0, 255, 256, 32_767, 32_768, 65_534, 65_535];
 
 fn itself(_: usize) -> String {
     "not met".to_string()
@@ -88,6 +97,15 @@ fn worker(place: usize) -> String {
 fn op_and_worker(place: usize) -> String {
     let ops = [PLAIN, SYNCHRONISING].concat();
     format!("{}, worker {}", ops[place % 14], place / 14)
+}
+
+fn op_and_register(place: usize) -> String {
+    format!("{}, register {}", PLAIN[place / 4], place % 4)
+}
+
+fn signal_and_count(place: usize) -> String {
+    let op = SYNCHRONISING[3 + place / 127];
+    format!("{op}, {}", place % 127 + 1)
 }
 
 const LOAD_STORE: [&str; 2] = ["load", "store"];

@@ -1,7 +1,7 @@
 //! Noting the limits that a run meets.
 
 use crate::check::Step;
-use crate::counts::limits::{Limit, Met};
+use crate::counts::limits::{Limit, Met, SET};
 use crate::format::{MOST_STEPS, MOST_TURNS, MOST_WORKERS};
 
 /// Where a worker stands when it comes to a step, or to its end of steps.
@@ -46,15 +46,24 @@ impl Meetings {
 
     /// A step on registers or memory.
     pub fn plain(&mut self, stand: Stand, step: Step, sight: &Sight) {
-        self.step(stand, usize::from(step.op - 16));
+        let op = usize::from(step.op - 16);
+        self.step(stand, op);
+        self.note(Limit::OpsByRegister, 4 * op + usize::from(step.register));
         let own = sight.registers[usize::from(step.register)];
         match step.op {
+            16 => self.set(step.number),
             17 => self.word(0, usize::from(step.number), sight),
             18 => self.store(stand, step, sight),
             19 | 20 => self.sum(step, sight),
             21 => self.skip(0, stand, step, own == 0),
             22 => self.skip(1, stand, step, own != 0),
             _ => {}
+        }
+    }
+
+    fn set(&mut self, number: u16) {
+        if let Some(place) = SET.iter().position(|&each| each == number) {
+            self.note(Limit::Set, place);
         }
     }
 
@@ -145,6 +154,13 @@ impl Meetings {
         match op {
             32 => self.note(Limit::Lock, usize::from(count) - 1),
             _ => self.note(Limit::Unlock, usize::from(count)),
+        }
+    }
+
+    /// A signal or a broadcast with this count.
+    pub fn signals(&mut self, op: u8, count: u8) {
+        if let Some(above) = usize::from(count).checked_sub(1) {
+            self.note(Limit::CountedSignal, 127 * usize::from(op - 35) + above);
         }
     }
 

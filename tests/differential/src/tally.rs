@@ -3,7 +3,9 @@
 mod answers;
 mod limits;
 mod logs;
+mod operands;
 mod queues;
+mod records;
 mod reports;
 
 use simulator::format::LOG_RECORD_LENGTH;

@@ -6,23 +6,25 @@ use simulator::Step;
 
 use super::{draft, played, times, Limit};
 
-/// Every count: failures with it, waits that keep it, unlocks from it.
+/// Every count: failures with it, signals within it, waits that keep it,
+/// unlocks from it.
 pub fn all() -> Vec<Limit> {
     let failing = (1..=128).map(|count| ("a failure with a count", failures(count)));
+    let waking = (1..=127).map(|count| ("signals with a count", signals(count)));
     let waiting = (1..=127).map(|count| ("a wait with a count", waits(count)));
-    let unlocking = (64..=127).map(|count| ("unlocks from a count", unlocks(count)));
-    let plans = failing.chain(waiting).chain(unlocking);
+    let unlocking = (63..=127).map(|count| ("unlocks from a count", unlocks(count)));
+    let plans = failing.chain(waking).chain(waiting).chain(unlocking);
     plans
         .flat_map(|(name, draft)| played(name, &draft))
         .collect()
 }
 
-/// So many locks, a store that a failure loses where there is room for it,
-/// and the steps behind them.
+/// So many locks and the steps behind them. Where there is room a store stands
+/// before the last lock, which must not commit it unless it is the only one.
 fn locked(count: usize, behind: &[Step]) -> Vec<Step> {
     let mut own = times(count, 32, count as u16 % 16);
     if own.len() + behind.len() < 128 {
-        own.push(step(18, 0, 2 * count as u16));
+        own.insert(count - 1, step(18, 0, 2 * count as u16));
     }
     own.extend_from_slice(behind);
     own
@@ -43,21 +45,34 @@ fn failures(count: usize) -> Draft {
     draft(&[(7, 1)], steps)
 }
 
+/// A holder with a count wakes a worker and keeps the token; 127 locks leave
+/// room for one signal, fewer for one more, which wakes nobody.
+fn signals(count: usize) -> Draft {
+    let waiter = vec![step(32, 0, 0), step(34, 0, 1), step(33, 0, 0)];
+    let behind = [[35, 36], [36, 35]].map(|[first, second]| {
+        let both = [step(first, 0, 1), step(second, 0, 2)];
+        locked(count, &both[..(128 - count).min(2)])
+    });
+    draft(&[], [vec![waiter; 2], behind.to_vec()].concat())
+}
+
 /// A worker waits with a count, is woken in the same round and unlocks as
 /// often as its steps allow; another one does so and is left waiting.
 fn waits(count: usize) -> Draft {
-    let mut woken = times(count, 32, 0);
-    woken.push(step(34, 0, 3));
-    woken.extend(times(count.min(127 - count), 33, 0));
-    let mut left = times(count, 32, 2);
-    left.push(step(34, 0, 4));
+    let mut woken = locked(count, &[step(34, 0, 3)]);
+    woken.extend(times(count.min(128 - woken.len()), 33, 0));
+    let left = locked(count, &[step(34, 0, 4)]);
     let waker = vec![step(35, 0, 3), step(36, 0, 5)];
     draft(&[], vec![woken, left, waker])
 }
 
-/// So many locks and unlocks in the rest of the 128 steps.
+/// So many locks, a store and unlocks in the rest of the 128 steps; a count
+/// that is left in the end loses the stored bytes. 127 leave no room for it.
 fn unlocks(count: usize) -> Draft {
     let mut own = times(count, 32, 9);
-    own.extend(times(128 - count, 33, 9));
+    if count < 127 {
+        own.push(step(18, 0, 1_000));
+    }
+    own.extend(times(count.min(128 - own.len()), 33, 9));
     draft(&[], vec![vec![step(35, 0, 0)], own])
 }

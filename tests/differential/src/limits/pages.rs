@@ -42,7 +42,8 @@ fn over_border(page: u16, copied: u16, op: u8) -> Draft {
     draft(&[], vec![own, beside.to_vec()])
 }
 
-/// Loads and stores of a page's first two and last two bytes.
+/// Loads and stores of a page's first two and last two bytes. A worker with an
+/// older copy of the page commits behind them and must not write them again.
 fn edges(page: u16) -> Draft {
     let (first, last) = (256 * page, 256 * page + 254);
     let own = vec![
@@ -62,7 +63,8 @@ fn edges(page: u16) -> Draft {
         step(18, 0, first + 80),
         step(33, 0, 0),
     ];
-    draft(&[], vec![own, seen])
+    let older = vec![step(18, 0, first + 120)];
+    draft(&[], vec![own, older, seen])
 }
 
 /// Each worker stores a word of its own in each page and loads it again, all

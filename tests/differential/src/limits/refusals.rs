@@ -18,7 +18,11 @@ pub fn all() -> Vec<Limit> {
     for index in [255, 256, 257, 1_031] {
         files.extend(bare_barriers(index));
     }
-    let refused = |file| Limit::new("a refusal at a far record", file, vec![0]);
+    files.extend((0..8).map(step_129_of));
+    files.extend((0..8).map(bare_barrier));
+    files.extend(wrong_lengths());
+    files.extend((1..8).map(falling_barriers));
+    let refused = |file| Limit::new("a refused file", file, vec![0]);
     let mut all: Vec<Limit> = files.into_iter().map(refused).collect();
     all.extend(played("the longest file", &longest(8)));
     all
@@ -75,4 +79,32 @@ fn bare_barriers(index: usize) -> [Vec<u8>; 2] {
     let cut = file_of(&records[..=index]);
     records.push(Record::new(7, 16, 0, 0));
     [cut, file_of(&records)]
+}
+
+/// A 129th step of one of eight workers, the others having one.
+fn step_129_of(worker: usize) -> Vec<u8> {
+    let mut steps = vec![vec![step(16, 0, 0)]; 8];
+    steps[worker] = vec![step(16, 0, 0); MOST_STEPS + 1];
+    draft(&[], steps).file()
+}
+
+/// The only barrier without a size is met.
+fn bare_barrier(barrier: u16) -> Vec<u8> {
+    let others = (0..8).filter(|&each| u16::from(each) != barrier);
+    let sizes: Vec<(u8, u16)> = others.map(|each| (each, 1)).collect();
+    draft(&sizes, vec![vec![step(37, 0, barrier)]]).file()
+}
+
+/// Files whose length is just no multiple of seven, or just too long.
+fn wrong_lengths() -> Vec<Vec<u8>> {
+    let mut longer = longest(8).file();
+    longer.extend_from_within(7_224..);
+    let short = [0, 6, 8].map(|length| longer[..length].to_vec());
+    let long = [7_230, 7_232, 7_238].map(|length| longer[..length].to_vec());
+    [short, long].concat()
+}
+
+/// A barrier behind the one above it.
+fn falling_barriers(barrier: u8) -> Vec<u8> {
+    draft(&[(barrier, 1), (barrier - 1, 1)], vec![vec![]]).file()
 }

@@ -17,18 +17,20 @@ pub fn all() -> Vec<Limit> {
     all
 }
 
-/// Stores of one register, each to an address of its own, so that memory
+/// Stores of a register, each to an address of its own, so that memory
 /// shows which of them were carried out.
-fn stores(worker: u16, count: u16) -> impl Iterator<Item = Step> {
-    (0..count).map(move |place| step(18, 2, 512 * worker + 3 * place))
+fn stores(worker: u16, register: u8, count: u16) -> impl Iterator<Item = Step> {
+    (0..count).map(move |place| step(18, register, 512 * worker + 3 * place))
 }
 
-/// Both ops, taken and not, and so many steps behind the skipped ones.
+/// Both ops, taken and not, and so many steps behind the skipped ones. Each
+/// register has its turn, and no other one is set.
 fn skips(far: u16, behind: u16) -> Draft {
+    let register = (far % 4) as u8;
     let own = |worker: u16| {
         let (op, value) = (21 + worker as u8 / 2, worker % 2);
-        let mut steps = vec![step(16, 2, value), step(op, 2, far)];
-        steps.extend(stores(worker, far + behind));
+        let mut steps = vec![step(16, register, value), step(op, register, far)];
+        steps.extend(stores(worker, register, far + behind));
         steps
     };
     draft(&[], (0..4).map(own).collect())
@@ -38,7 +40,7 @@ fn skips(far: u16, behind: u16) -> Draft {
 fn skips_of_127() -> Draft {
     let own = |worker: u16| {
         let mut steps = vec![step(21 + worker as u8, worker as u8, 127)];
-        steps.extend(stores(worker, 127));
+        steps.extend(stores(worker, 2, 127));
         steps
     };
     draft(&[], (0..2).map(own).collect())

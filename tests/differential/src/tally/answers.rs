@@ -2,6 +2,7 @@
 
 use simulator::counts::{Board, Row};
 use simulator::format::MOST_TURNS;
+use simulator::generate::buffers::LENGTHS;
 
 use crate::call::Call;
 
@@ -32,7 +33,7 @@ pub const CHECK_ROWS: [Row; 2] = [
 ];
 
 /// Rows of the answers of a run.
-pub const RUN_ROWS: [Row; 3] = [
+pub const RUN_ROWS: [Row; 4] = [
     Row {
         name: "run: refusal at record",
         members: 36,
@@ -48,7 +49,17 @@ pub const RUN_ROWS: [Row; 3] = [
         members: 11,
         named: misnaming,
     },
+    Row {
+        name: "refusal 11, one buffer",
+        members: 8,
+        named: |place| {
+            let by = ["one byte short", "one byte longer"][place % 2];
+            format!("{} {by}", BUFFERS[place / 2])
+        },
+    },
 ];
+
+const BUFFERS: [&str; 4] = ["memory", "log", "report", "work"];
 
 fn refusal_and_record(place: usize) -> String {
     let refusal = place as u32 / 4 + 2;
@@ -100,8 +111,21 @@ pub fn note_run(board: &mut Board, call: &Call, answer: u32) {
         (0, 65_534) => board.count(1, 0),
         (0, 65_535) => board.count(1, 1),
         (12, 65_536) => board.count(1, 2),
+        (11, _) => note_lengths(board, call),
         (13, _) => note_misnamed(board, call),
         _ => {}
+    }
+}
+
+/// Just one buffer has a wrong length, by one byte.
+fn note_lengths(board: &mut Board, call: &Call) {
+    let wrong = |&which: &usize| call.lent[which].len() != LENGTHS[which];
+    let all: Vec<usize> = (0..4).filter(wrong).collect();
+    if let [which] = all[..] {
+        let (length, right) = (call.lent[which].len(), LENGTHS[which]);
+        if length.abs_diff(right) == 1 {
+            board.count(3, 2 * which + usize::from(length > right));
+        }
     }
 }
 

@@ -4,12 +4,13 @@ use simulator::counts::Board;
 use simulator::format::LOG_RECORD_LENGTH;
 
 use super::queues::Walk;
-use super::{answers, logs, queues, reports};
+use super::{answers, logs, operands, queues, reports};
 use crate::call::{Call, Verdict};
 
 /// The boards of all limits.
 pub struct Limits {
     checks: Board,
+    files: Board,
     runs: Board,
     within: Board,
     reports: Board,
@@ -21,6 +22,7 @@ impl Default for Limits {
     fn default() -> Self {
         Limits {
             checks: Board::new(&answers::CHECK_ROWS),
+            files: Board::new(&operands::ROWS),
             runs: Board::new(&answers::RUN_ROWS),
             within: Board::new(&simulator::counts::ROWS),
             reports: Board::new(&reports::ROWS),
@@ -34,6 +36,7 @@ impl Limits {
     /// An answer of a check.
     pub fn check(&mut self, file: &[u8], answer: u32) {
         answers::note_check(&mut self.checks, file, answer);
+        operands::note(&mut self.files, file, answer);
     }
 
     /// An answer of a run and, if it was accepted, what it did.
@@ -60,7 +63,7 @@ impl Limits {
 
     /// The boards; those of runs only if runs are tested.
     pub fn boards(&self, with_runs: bool) -> Vec<&Board> {
-        let mut boards = vec![&self.checks];
+        let mut boards = vec![&self.checks, &self.files];
         if with_runs {
             boards.extend([&self.runs, &self.within, &self.reports]);
             boards.extend([&self.logs, &self.queues]);
