@@ -185,10 +185,11 @@ pub struct Machine<'a> {
     log: Vec<u8>,
     end: End,
     counts: Counts,
-    /// Turns played, and the number of the one that moved last; only counts
-    /// need them.
+    /// Turns played, the number of the one that moved last, and the record
+    /// index of each worker's first step; only counts need them.
     turns: usize,
     last_moved: usize,
+    first: Vec<usize>,
 }
 
 impl<'a> Machine<'a> {
@@ -208,6 +209,7 @@ impl<'a> Machine<'a> {
             counts: Counts::default(),
             turns: 0,
             last_moved: 0,
+            first: first_records(plan),
         }
     }
 
@@ -297,6 +299,7 @@ impl<'a> Machine<'a> {
             workers: self.workers.len(),
             place: self.workers[worker].place,
             length: self.plan.steps[worker].len(),
+            record: self.first[worker] + self.workers[worker].place,
             count: self.workers[worker].count,
         }
     }
@@ -493,6 +496,17 @@ impl<'a> Machine<'a> {
         }
         report
     }
+}
+
+/// Behind the plan record come those of the barriers, then the steps.
+fn first_records(plan: &Plan) -> Vec<usize> {
+    let mut next = 1 + plan.barrier_sizes.iter().flatten().count();
+    let mut first = Vec::new();
+    for own in &plan.steps {
+        first.push(next);
+        next += own.len();
+    }
+    first
 }
 
 fn fate_byte(fate: Fate) -> u8 {

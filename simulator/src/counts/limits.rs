@@ -32,6 +32,9 @@ pub enum Limit {
     Set,
     OpsByRegister,
     CountedSignal,
+    Address,
+    TurnNumber,
+    RecordIndex,
 }
 
 /// A row and the place in it of a limit that was met.
@@ -46,7 +49,7 @@ const fn row(name: &'static str, members: usize, named: fn(usize) -> String) -> 
 }
 
 /// The rows, in the order of `Limit`.
-pub const ROWS: [Row; 25] = [
+pub const ROWS: [Row; 28] = [
     row("step by op and worker, eight workers", 112, op_and_worker),
     row("128th step", 8, worker),
     row("end without a step", 8, worker),
@@ -72,10 +75,23 @@ pub const ROWS: [Row; 25] = [
     row("number set", SET.len(), |place| SET[place].to_string()),
     row("own step by op and register", 28, op_and_register),
     row("signal or broadcast, count", 254, signal_and_count),
+    row("load or store at address", 4_094, address),
+    row("moving turn of number", TURNS.len(), |place| {
+        TURNS[place].to_string()
+    }),
+    row("step of record", RECORDS.len(), |place| {
+        RECORDS[place].to_string()
+    }),
 ];
 
 /// Numbers at the limits of a byte, of a sign and of a register.
 pub const SET: [u16; 7] = [0, 255, 256, 32_767, 32_768, 65_534, 65_535];
+
+/// Numbers of turns, the first being 1.
+pub const TURNS: [usize; 8] = [255, 256, 257, 32_767, 32_768, 32_769, 65_534, 65_535];
+
+/// Indices of records, the plan record being 0.
+pub const RECORDS: [usize; 8] = [255, 256, 257, 511, 512, 1_023, 1_024, 1_032];
 
 fn itself(_: usize) -> String {
     "not met".to_string()
@@ -115,6 +131,10 @@ fn border(place: usize) -> String {
     let address = 255 + 256 * (place / 4 % 7);
     let op = LOAD_STORE[place / 28];
     format!("{op} at {address}, copied: {}", COPIED[place % 4])
+}
+
+fn address(place: usize) -> String {
+    format!("{} at {}", LOAD_STORE[place / 2_047], place % 2_047)
 }
 
 fn edge(place: usize) -> String {

@@ -1,7 +1,7 @@
 //! Noting the limits that a run meets.
 
 use crate::check::Step;
-use crate::counts::limits::{Limit, Met, SET};
+use crate::counts::limits::{Limit, Met, RECORDS, SET, TURNS};
 use crate::format::{MOST_STEPS, MOST_TURNS, MOST_WORKERS};
 
 /// Where a worker stands when it comes to a step, or to its end of steps.
@@ -13,6 +13,8 @@ pub struct Stand {
     /// Steps of this worker before the one at hand, and all of its steps.
     pub place: usize,
     pub length: usize,
+    /// Index of the record of the step at hand.
+    pub record: usize,
     pub count: u8,
 }
 
@@ -44,6 +46,13 @@ impl Meetings {
         self.met.push((limit, member as u16));
     }
 
+    /// Notes a number that is one of a row's.
+    fn note_one_of<T: PartialEq>(&mut self, limit: Limit, all: &[T], number: T) {
+        if let Some(place) = all.iter().position(|each| *each == number) {
+            self.note(limit, place);
+        }
+    }
+
     /// A step on registers or memory.
     pub fn plain(&mut self, stand: Stand, step: Step, sight: &Sight) {
         let op = usize::from(step.op - 16);
@@ -51,19 +60,13 @@ impl Meetings {
         self.note(Limit::OpsByRegister, 4 * op + usize::from(step.register));
         let own = sight.registers[usize::from(step.register)];
         match step.op {
-            16 => self.set(step.number),
+            16 => self.note_one_of(Limit::Set, &SET, step.number),
             17 => self.word(0, usize::from(step.number), sight),
             18 => self.store(stand, step, sight),
             19 | 20 => self.sum(step, sight),
             21 => self.skip(0, stand, step, own == 0),
             22 => self.skip(1, stand, step, own != 0),
             _ => {}
-        }
-    }
-
-    fn set(&mut self, number: u16) {
-        if let Some(place) = SET.iter().position(|&each| each == number) {
-            self.note(Limit::Set, place);
         }
     }
 
@@ -75,10 +78,12 @@ impl Meetings {
         if stand.place + 1 == MOST_STEPS {
             self.note(Limit::LastStep, stand.worker);
         }
+        self.note_one_of(Limit::RecordIndex, &RECORDS, stand.record);
     }
 
     /// A load (0) or a store (1) of the two bytes at an address.
     fn word(&mut self, which: usize, address: usize, sight: &Sight) {
+        self.note(Limit::Address, 2_047 * which + address);
         let page = address / 256;
         if address % 256 == 255 {
             let copied = usize::from(sight.copied[page]) + 2 * usize::from(sight.copied[page + 1]);
@@ -178,6 +183,7 @@ impl Meetings {
     /// The turn of this number, the first being 1, made a move; `ended` says
     /// whether the plan has ended with it.
     pub fn moved(&mut self, turn: usize, made: Move, ended: bool) {
+        self.note_one_of(Limit::TurnNumber, &TURNS, turn);
         if turn == MOST_TURNS {
             let place = match made {
                 Move::OwnStep => 0,

@@ -1,4 +1,5 @@
-//! Turn lists of 65,534, 65,535 and 65,536 turns, and turns that name nobody.
+//! Turn lists of 65,534, 65,535 and 65,536 turns, and other ones whose last
+//! turn has a number at a limit; turns that name nobody.
 
 use simulator::generate::Draft;
 use simulator::{Machine, Plan};
@@ -20,6 +21,8 @@ pub fn all() -> Vec<Limit> {
     lists.extend(places.iter().map(fills));
     lists.extend((whole - 2..=whole).map(|cut| (cut, places[0], 65_534)));
     lists.push((whole, places[0], 65_536));
+    let lengths = [255, 256, 257, 32_767, 32_768, 32_769];
+    lists.extend(lengths.map(|length| (whole, places[0], length)));
     let list = |(cut, at, length)| {
         let turns = padded(&plan, &moves[..cut], at, length);
         Limit::new("a full list", file.clone(), turns)

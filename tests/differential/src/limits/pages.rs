@@ -19,6 +19,7 @@ pub fn all() -> Vec<Limit> {
     }
     all.extend((0..8).flat_map(|page| played("the edges of a page", &edges(page))));
     all.extend(played("all copies at once", &all_copies()));
+    all.extend((0..4).flat_map(|part| played("every address", &every_address(part))));
     all
 }
 
@@ -81,4 +82,24 @@ fn everywhere(worker: u16) -> Vec<Step> {
     let mut own: Vec<Step> = (0..8).flat_map(store).collect();
     own.extend((0..8).flat_map(load));
     own
+}
+
+/// One of four parts, in which every address is loaded from once and every
+/// one, being five times as far, stored to once. 2,048 pairs are one too many,
+/// and the last address comes up twice.
+fn every_address(part: u16) -> Draft {
+    let pair = |place: u32| {
+        let from = place.min(2_046);
+        let to = (5 * from + 3) % 2_047;
+        let register = (place % 4) as u8;
+        [
+            step(17, register, from as u16),
+            step(18, register, to as u16),
+        ]
+    };
+    let own = |worker: u16| {
+        let first = u32::from(512 * part + 64 * worker);
+        (first..first + 64).flat_map(pair).collect()
+    };
+    draft(&[], (0..8).map(own).collect())
 }

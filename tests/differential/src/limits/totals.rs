@@ -30,6 +30,10 @@ pub fn all() -> Vec<Limit> {
     all.extend(cuts(&relay, ROUNDS, &[255, 256, 257, 511, 512, 1_018]));
     all.extend(played("a longest log", &locks));
     all.extend(played("a longest log", &signals));
+    for barriers in 0..=8 {
+        let draft = all_different(barriers);
+        all.extend(played("steps that all differ", &draft));
+    }
     all
 }
 
@@ -69,4 +73,13 @@ fn cuts(draft: &Draft, at: usize, numbers: &[u16]) -> Vec<Limit> {
         before = number;
     }
     all
+}
+
+/// Eight workers whose 1,024 steps all differ, and so many barrier records in
+/// front of them: every other step stores a word of its own to its own place.
+fn all_different(barriers: u8) -> Draft {
+    let pair = |place: u16| [step(16, 0, 31 * place + 7), step(18, 0, 4 * place)];
+    let own = |worker: u16| (64 * worker..64 * worker + 64).flat_map(pair).collect();
+    let sizes: Vec<(u8, u16)> = (8 - barriers..8).map(|barrier| (barrier, 3)).collect();
+    draft(&sizes, (0..8).map(own).collect())
 }

@@ -19,7 +19,7 @@ fn last_record(refusal: u32) -> u32 {
 }
 
 /// Rows of the answers of a check.
-pub const CHECK_ROWS: [Row; 2] = [
+pub const CHECK_ROWS: [Row; 3] = [
     Row {
         name: "check: refusal at record",
         members: 36,
@@ -29,6 +29,11 @@ pub const CHECK_ROWS: [Row; 2] = [
         name: "check: accepted, 1,033 records",
         members: 1,
         named: |_| "not met".to_string(),
+    },
+    Row {
+        name: "check: accepted, barrier records",
+        members: 9,
+        named: |place| place.to_string(),
     },
 ];
 
@@ -97,9 +102,15 @@ pub fn note_check(board: &mut Board, file: &[u8], answer: u32) {
     if let Some(place) = place_of(answer) {
         board.count(0, place);
     }
-    if answer == 0 && file.len() == 1_033 * 7 {
+    if answer != 0 {
+        return;
+    }
+    if file.len() == 1_033 * 7 {
         board.count(1, 0);
     }
+    let records = file.chunks_exact(7).skip(1);
+    let barriers = records.take_while(|record| record[3] == 1).count();
+    board.count(2, barriers);
 }
 
 /// Notes the answer of a run.

@@ -6,9 +6,11 @@ use simulator::format::Record;
 
 use super::records::{self, Seen};
 
+type Range = (u8, u8, Option<u16>, Option<u16>);
+
 /// Each op, the first register and the first numbers that it does not allow,
 /// below (none but a skip of 0) and above (none for a set).
-const RANGES: [(u8, u8, Option<u16>, Option<u16>); 14] = [
+const RANGES: [Range; 14] = [
     (16, 4, None, None),
     (17, 4, None, Some(2_047)),
     (18, 4, None, Some(2_047)),
@@ -60,7 +62,7 @@ pub const ROWS: [Row; 6] = [
 
 /// Each op with a number just out of its range.
 fn wrong_numbers() -> Vec<(u8, u16)> {
-    let of = |(op, _, below, above): (u8, u8, Option<u16>, Option<u16>)| {
+    let of = |(op, _, below, above): Range| {
         let numbers = below.into_iter().chain(above);
         numbers.map(move |number| (op, number))
     };
@@ -85,11 +87,21 @@ pub fn note(board: &mut Board, file: &[u8], answer: u32) {
     }
 }
 
+/// Notes an operand that is out of its range, the other one being in its.
 fn note_operand(board: &mut Board, record: &Record) {
-    let register = (record.op, record.register);
-    let place = RANGES.iter().position(|row| (row.0, row.1) == register);
-    place.into_iter().for_each(|place| board.count(1, place));
-    let number = (record.op, record.number);
-    let place = wrong_numbers().iter().position(|&each| each == number);
-    place.into_iter().for_each(|place| board.count(2, place));
+    let is_op = |row: &&Range| row.0 == record.op;
+    let Some(&(op, register, below, above)) = RANGES.iter().find(is_op) else {
+        return;
+    };
+    let number_fits = below.is_none_or(|below| record.number > below)
+        && above.is_none_or(|above| record.number < above);
+    if record.register == register && number_fits {
+        let place = RANGES.iter().position(|row| row.0 == op);
+        place.into_iter().for_each(|place| board.count(1, place));
+    }
+    if record.register < register {
+        let number = (op, record.number);
+        let place = wrong_numbers().iter().position(|&each| each == number);
+        place.into_iter().for_each(|place| board.count(2, place));
+    }
 }

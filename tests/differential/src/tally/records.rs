@@ -79,7 +79,7 @@ const EDGES: [Edge; 28] = [
         size(seen, |r| below(r.register, seen.before.register)) && seen.before.op == 1
     }),
     ("4, behind a step", |seen| {
-        size(seen, |r| r.worker == 0 && r.register < 8) && seen.before.op > 1
+        size(seen, |_| seen.before.op > 1)
     }),
     ("5, worker n", |seen| {
         seen.refusal == 5 && seen.record.worker == seen.workers
@@ -127,8 +127,18 @@ fn plan(seen: &Seen, fields: [u8; 4]) -> bool {
     seen.refusal == 3 && seen.index == 0 && found == wanted[..3] && number == wanted[3]
 }
 
+/// A barrier record that is wrong in one way, which is this one.
 fn size(seen: &Seen, which: impl Fn(&Record) -> bool) -> bool {
-    seen.refusal == 4 && which(&seen.record)
+    let (record, before) = (&seen.record, &seen.before);
+    let wrong = [
+        record.worker != 0,
+        record.register > 7,
+        !(1..=8).contains(&record.number),
+        before.op == 1 && record.register <= before.register,
+        before.op > 1,
+    ];
+    let ways = wrong.iter().filter(|&&way| way).count();
+    seen.refusal == 4 && ways == 1 && which(record)
 }
 
 fn op(seen: &Seen, op: u8) -> bool {
