@@ -102,17 +102,21 @@ impl Worker {
         self.write(shared, address + 1, high);
     }
 
-    /// Writes every byte that differs from its twin and drops the copies.
-    fn commit(&mut self, shared: &mut [u8]) {
+    /// Writes every byte that differs from its twin and drops the copies. Says
+    /// how many bytes it wrote, which only counts need.
+    fn commit(&mut self, shared: &mut [u8]) -> usize {
+        let mut written = 0;
         for (page, slot) in self.copies.iter_mut().enumerate() {
             let Some(copy) = slot.take() else { continue };
             let target = &mut shared[page * PAGE_SIZE..][..PAGE_SIZE];
             for (offset, byte) in target.iter_mut().enumerate() {
                 if copy.working[offset] != copy.twin[offset] {
                     *byte = copy.working[offset];
+                    written += 1;
                 }
             }
         }
+        written
     }
 
     /// What counts need to know of a step on registers or memory.
@@ -363,7 +367,11 @@ impl<'a> Machine<'a> {
     }
 
     fn commit(&mut self, worker: usize) {
-        self.workers[worker].commit(&mut self.shared);
+        let copied = self.workers[worker].copies.iter().any(Option::is_some);
+        let written = self.workers[worker].commit(&mut self.shared);
+        if copied {
+            self.counts.limits.committed(written);
+        }
     }
 
     fn lock(&mut self, worker: usize) -> (u8, Token) {

@@ -35,6 +35,7 @@ pub enum Limit {
     Address,
     TurnNumber,
     RecordIndex,
+    Committed,
 }
 
 /// A row and the place in it of a limit that was met.
@@ -49,7 +50,7 @@ const fn row(name: &'static str, members: usize, named: fn(usize) -> String) -> 
 }
 
 /// The rows, in the order of `Limit`.
-pub const ROWS: [Row; 28] = [
+pub const ROWS: [Row; 29] = [
     row("step by op and worker, eight workers", 112, op_and_worker),
     row("128th step", 8, worker),
     row("end without a step", 8, worker),
@@ -82,10 +83,16 @@ pub const ROWS: [Row; 28] = [
     row("step of record", RECORDS.len(), |place| {
         RECORDS[place].to_string()
     }),
+    row("bytes written by a commit", COMMITTED.len(), |place| {
+        COMMITTED[place].to_string()
+    }),
 ];
 
 /// Numbers at the limits of a byte, of a sign and of a register.
 pub const SET: [u16; 7] = [0, 255, 256, 32_767, 32_768, 65_534, 65_535];
+
+/// Counts of bytes; 128 steps store no more than 256.
+pub const COMMITTED: [usize; 5] = [0, 1, 2, 255, 256];
 
 /// Numbers of turns, the first being 1.
 pub const TURNS: [usize; 8] = [255, 256, 257, 32_767, 32_768, 32_769, 65_534, 65_535];

@@ -1,7 +1,7 @@
 //! Noting the limits that a run meets.
 
 use crate::check::Step;
-use crate::counts::limits::{Limit, Met, RECORDS, SET, TURNS};
+use crate::counts::limits::{Limit, Met, COMMITTED, RECORDS, SET, TURNS};
 use crate::format::{MOST_STEPS, MOST_TURNS, MOST_WORKERS};
 
 /// Where a worker stands when it comes to a step, or to its end of steps.
@@ -131,6 +131,11 @@ impl Meetings {
         if sum == 8 * MOST_WORKERS {
             self.note(Limit::AllCopied, 0);
         }
+    }
+
+    /// A commit of pages that a worker has copied has written so many bytes.
+    pub fn committed(&mut self, bytes: usize) {
+        self.note_one_of(Limit::Committed, &COMMITTED, bytes);
     }
 
     /// The holder at a synchronising step, or at its end of steps.

@@ -82,7 +82,8 @@ impl Test {
     pub fn lengths(&mut self) -> Done {
         for which in 0..4 {
             let right = LENGTHS[which];
-            for wrong in [0, 1, right - 1, right, right + 1, 2 * right] {
+            let low_bits_right = right + 65_536;
+            for wrong in [0, 1, right - 1, right, right + 1, 2 * right, low_bits_right] {
                 let mut lengths = LENGTHS;
                 lengths[which] = wrong;
                 self.later_refusals(lengths)?;

@@ -18,6 +18,7 @@ pub fn all() -> Vec<Limit> {
         }
     }
     all.extend((0..8).flat_map(|page| played("the edges of a page", &edges(page))));
+    all.extend((0..8).flat_map(|page| played("a whole page", &whole_page(page))));
     all.extend(played("all copies at once", &all_copies()));
     all.extend((0..4).flat_map(|part| played("every address", &every_address(part))));
     all
@@ -102,4 +103,16 @@ fn every_address(part: u16) -> Draft {
         (first..first + 64).flat_map(pair).collect()
     };
     draft(&[], (0..8).map(own).collect())
+}
+
+/// One worker changes every byte of a page, one all but one, and one none,
+/// since it stores what it has loaded. Registers that nobody has set are
+/// zero, and no byte of memory is.
+fn whole_page(page: u16) -> Draft {
+    let at = |place: u16| 256 * page + 2 * place;
+    let every: Vec<Step> = (0..128).map(|place| step(18, 0, at(place))).collect();
+    let mut but_one = every.clone();
+    but_one[127].number -= 1;
+    let none = vec![step(17, 0, at(9)), step(18, 0, at(9))];
+    draft(&[], vec![none, but_one, every])
 }

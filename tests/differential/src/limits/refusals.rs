@@ -95,13 +95,15 @@ fn bare_barrier(barrier: u16) -> Vec<u8> {
     draft(&sizes, vec![vec![step(37, 0, barrier)]]).file()
 }
 
-/// Files whose length is just no multiple of seven, or just too long.
+/// Files whose length is just no multiple of seven, or just too long, and one
+/// whose length would do in its low 16 bits.
 fn wrong_lengths() -> Vec<Vec<u8>> {
     let mut longer = longest(8).file();
     longer.extend_from_within(7_224..);
     let short = [0, 6, 8].map(|length| longer[..length].to_vec());
     let long = [7_230, 7_232, 7_238].map(|length| longer[..length].to_vec());
-    [short, long].concat()
+    longer.resize(65_536 + 7, 0);
+    [&short[..], &long, &[longer]].concat()
 }
 
 /// A barrier behind the one above it.

@@ -3,7 +3,7 @@
 
 use simulator::generate::draft::step;
 use simulator::generate::Draft;
-use simulator::Machine;
+use simulator::{Machine, Step};
 
 use super::{draft, memory, moving_turns, plan_of, played, rising, times, Limit};
 
@@ -30,6 +30,7 @@ pub fn all() -> Vec<Limit> {
     all.extend(cuts(&relay, ROUNDS, &[255, 256, 257, 511, 512, 1_018]));
     all.extend(played("a longest log", &locks));
     all.extend(played("a longest log", &signals));
+    all.extend(played("kept over many rounds", &kept_over_rounds()));
     for barriers in 0..=8 {
         let draft = all_different(barriers);
         all.extend(played("steps that all differ", &draft));
@@ -82,4 +83,30 @@ fn all_different(barriers: u8) -> Draft {
     let own = |worker: u16| (64 * worker..64 * worker + 64).flat_map(pair).collect();
     let sizes: Vec<(u8, u16)> = (8 - barriers..8).map(|barrier| (barrier, 3)).collect();
     draft(&sizes, (0..8).map(own).collect())
+}
+
+/// A relay that takes some 800 rounds. Registers are set in the first one and
+/// stored at the end; the first worker waits meanwhile, with two locks.
+fn kept_over_rounds() -> Draft {
+    let set =
+        |worker: u16| (0..4).map(move |each| step(16, each, 500 * worker + 99 + u16::from(each)));
+    let store =
+        |worker: u16| (0..4).map(move |each| step(18, each, 256 * worker + 60 * u16::from(each)));
+    let row = |worker: u16| {
+        let mut own: Vec<Step> = set(worker).collect();
+        own.extend((worker > 1).then(|| step(37, 0, worker - 1)));
+        match worker {
+            0 => own.extend([step(32, 0, 1), step(32, 0, 2), step(34, 0, 0)]),
+            _ => own.extend(times(110, 36, worker)),
+        }
+        own.extend(store(worker));
+        match worker {
+            0 => own.extend(times(2, 33, 3)),
+            7 => own.push(step(35, 0, 0)),
+            _ => own.push(step(37, 0, worker)),
+        }
+        own
+    };
+    let sizes: Vec<(u8, u16)> = (1..7).map(|barrier| (barrier, 2)).collect();
+    draft(&sizes, (0..8).map(row).collect())
 }

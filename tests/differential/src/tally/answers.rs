@@ -56,10 +56,10 @@ pub const RUN_ROWS: [Row; 4] = [
     },
     Row {
         name: "refusal 11, one buffer",
-        members: 8,
+        members: 12,
         named: |place| {
-            let by = ["one byte short", "one byte longer"][place % 2];
-            format!("{} {by}", BUFFERS[place / 2])
+            let by = ["one byte short", "one byte longer", "64 KiB longer"][place % 3];
+            format!("{} {by}", BUFFERS[place / 3])
         },
     },
 ];
@@ -128,15 +128,17 @@ pub fn note_run(board: &mut Board, call: &Call, answer: u32) {
     }
 }
 
-/// Just one buffer has a wrong length, by one byte.
+/// Just one buffer has a wrong length.
 fn note_lengths(board: &mut Board, call: &Call) {
     let wrong = |&which: &usize| call.lent[which].len() != LENGTHS[which];
     let all: Vec<usize> = (0..4).filter(wrong).collect();
-    if let [which] = all[..] {
-        let (length, right) = (call.lent[which].len(), LENGTHS[which]);
-        if length.abs_diff(right) == 1 {
-            board.count(3, 2 * which + usize::from(length > right));
-        }
+    let [which] = all[..] else {
+        return;
+    };
+    let (length, right) = (call.lent[which].len(), LENGTHS[which]);
+    let wrong = [right - 1, right + 1, right + 65_536];
+    if let Some(by) = wrong.iter().position(|&each| each == length) {
+        board.count(3, 3 * which + by);
     }
 }
 

@@ -28,7 +28,7 @@ const RANGES: [Range; 14] = [
 ];
 
 /// Lengths of files that are refused for them.
-const LENGTHS: [usize; 6] = [0, 6, 8, 7_230, 7_232, 7_238];
+const LENGTHS: [usize; 7] = [0, 6, 8, 7_230, 7_232, 7_238, 65_543];
 
 /// The rows.
 pub const ROWS: [Row; 6] = [
