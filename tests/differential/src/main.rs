@@ -2,9 +2,10 @@
 //! every buffer, the guard bytes around them included.
 //!
 //! `differential [--engine library|twin|OBJECT] [--seed N] [--count N]
-//! [--seconds N]`. The fixed parts come first, then `count` random calls, or
-//! as many as fit in the seconds. It ends with 1 at the first difference, and
-//! also if a long enough run left a rule untried.
+//! [--seconds N]`. The fixed parts come first, those at the limits of the paper
+//! before all, then `count` random calls, or as many as fit in the seconds. It
+//! ends with 1 at the first difference, and also if a long enough run left a
+//! rule or a limit untried.
 
 mod call;
 mod engine;

@@ -7,23 +7,29 @@ use simulator::Step;
 use super::{draft, played, times, Limit};
 
 pub fn all() -> Vec<Limit> {
-    let mut all = Vec::new();
-    for workers in 1..=8 {
-        all.extend(played("every op", &every_op(workers)));
-        all.extend(played("none has steps", &draft(&[], vec![vec![]; workers])));
-        all.extend(played("stuck at a barrier", &too_large(workers)));
-    }
-    for number in 0..16 {
-        all.extend(played("a lock's number", &lock(number)));
-    }
-    for number in 0..8 {
-        all.extend(played("a number met in failing", &failing(number)));
-        all.extend(played("a condition's number", &nobody_waits(number)));
-    }
+    let mut all: Vec<Limit> = (1..=8).flat_map(by_workers).collect();
+    all.extend((0..16).flat_map(|number| played("a lock's number", &lock(number))));
+    all.extend((0..8).flat_map(by_number));
     all.extend(played("registers never set", &never_set()));
     all.extend(played("sums by registers", &sums([65_535, 1], [0, 1])));
     all.extend(played("sums by registers", &sums([40_000, 30_000], [5, 9])));
     all.extend(played("numbers that are set", &set_numbers()));
+    all
+}
+
+/// Plans of so many workers.
+fn by_workers(workers: usize) -> Vec<Limit> {
+    let none = draft(&[], vec![vec![]; workers]);
+    let mut all = played("every op", &every_op(workers));
+    all.extend(played("none has steps", &none));
+    all.extend(played("stuck at a barrier", &too_large(workers)));
+    all
+}
+
+/// Plans with the condition and the barrier of this number.
+fn by_number(number: u16) -> Vec<Limit> {
+    let mut all = played("a number met in failing", &failing(number));
+    all.extend(played("a condition's number", &nobody_waits(number)));
     all
 }
 

@@ -8,19 +8,23 @@ use simulator::Step;
 use super::{draft, played, Limit};
 
 pub fn all() -> Vec<Limit> {
-    let mut all = Vec::new();
-    for page in 0..7 {
-        for copied in 0..4 {
-            let load = over_border(page, copied, 17);
-            all.extend(played("a load over a page border", &load));
-            let store = over_border(page, copied, 18);
-            all.extend(played("a store over a page border", &store));
-        }
-    }
+    let mut all: Vec<Limit> = (0..7).flat_map(borders).collect();
     all.extend((0..8).flat_map(|page| played("the edges of a page", &edges(page))));
     all.extend((0..8).flat_map(|page| played("a whole page", &whole_page(page))));
     all.extend(played("all copies at once", &all_copies()));
     all.extend((0..4).flat_map(|part| played("every address", &every_address(part))));
+    all
+}
+
+/// Loads and stores over the border behind a page.
+fn borders(page: u16) -> Vec<Limit> {
+    let mut all = Vec::new();
+    for copied in 0..4 {
+        let load = over_border(page, copied, 17);
+        all.extend(played("a load over a page border", &load));
+        let store = over_border(page, copied, 18);
+        all.extend(played("a store over a page border", &store));
+    }
     all
 }
 

@@ -18,28 +18,34 @@ const ORDERS: [[usize; 8]; 4] = [
 const WAKINGS: [(u8, bool); 4] = [(35, false), (36, false), (35, true), (36, true)];
 
 pub fn all() -> Vec<Limit> {
-    let mut all = Vec::new();
-    for number in 0..8 {
-        for order in ORDERS {
-            all.extend(at_condition(number, order));
-            all.extend((1..=8).flat_map(|size| at_barrier(number, size, order)));
-        }
-        all.extend(played("seven at a barrier", &one_short(number)));
-    }
-    for (op, locked) in WAKINGS {
-        let again = (1..=6).map(|others| waits_again(others, op, locked));
-        all.extend(again.flat_map(|draft| played("a wait behind others again", &draft)));
-    }
-    for barriers in 2..=8 {
-        let draft = several_barriers(barriers);
-        all.extend(played("several barriers", &draft));
-    }
-    for conditions in 2..=8 {
-        let drafts = ORDERS.map(|order| several(conditions, order));
-        let each = |draft| played("several conditions", draft);
-        all.extend(drafts.iter().flat_map(each));
+    let numbers = (0..8).flat_map(of_number);
+    let again = WAKINGS.into_iter().flat_map(again);
+    let barriers = (2..=8).flat_map(|count| played("several barriers", &several_barriers(count)));
+    let conditions = (2..=8).flat_map(at_several);
+    let all = numbers.chain(again).chain(barriers).chain(conditions);
+    all.collect()
+}
+
+/// Queues of the condition and of the barrier of this number.
+fn of_number(number: u16) -> Vec<Limit> {
+    let mut all = played("seven at a barrier", &one_short(number));
+    for order in ORDERS {
+        all.extend(at_condition(number, order));
+        all.extend((1..=8).flat_map(|size| at_barrier(number, size, order)));
     }
     all
+}
+
+fn again((op, locked): (u8, bool)) -> Vec<Limit> {
+    let drafts = (1..=6).map(|others| waits_again(others, op, locked));
+    let each = |draft| played("a wait behind others again", &draft);
+    drafts.flat_map(each).collect()
+}
+
+fn at_several(conditions: u16) -> Vec<Limit> {
+    let drafts = ORDERS.map(|order| several(conditions, order));
+    let each = |draft| played("several conditions", draft);
+    drafts.iter().flat_map(each).collect()
 }
 
 /// Signals that wake nobody; each takes a round, so that workers with more of

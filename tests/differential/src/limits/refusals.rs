@@ -10,18 +10,13 @@ use super::{draft, played, Limit};
 const INDICES: [usize; 4] = [255, 256, 257, 1_032];
 
 pub fn all() -> Vec<Limit> {
-    let mut files = Vec::new();
-    for index in INDICES {
-        files.extend(single_faults(index));
-        files.push(step_129(index));
-    }
-    for index in [255, 256, 257, 1_031] {
-        files.extend(bare_barriers(index));
-    }
+    let mut files: Vec<Vec<u8>> = INDICES.into_iter().flat_map(single_faults).collect();
+    files.extend(INDICES.map(step_129));
+    files.extend([255, 256, 257, 1_031].into_iter().flat_map(bare_barriers));
     files.extend((0..8).map(step_129_of));
     files.extend((0..8).map(bare_barrier));
-    files.extend(wrong_lengths());
     files.extend((1..8).map(falling_barriers));
+    files.extend(wrong_lengths());
     let refused = |file| Limit::new("a refused file", file, vec![0]);
     let mut all: Vec<Limit> = files.into_iter().map(refused).collect();
     all.extend(played("the longest file", &longest(8)));

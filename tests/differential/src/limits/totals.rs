@@ -31,10 +31,8 @@ pub fn all() -> Vec<Limit> {
     all.extend(played("a longest log", &locks));
     all.extend(played("a longest log", &signals));
     all.extend(played("kept over many rounds", &kept_over_rounds()));
-    for barriers in 0..=8 {
-        let draft = all_different(barriers);
-        all.extend(played("steps that all differ", &draft));
-    }
+    let different = (0..=8).map(all_different);
+    all.extend(different.flat_map(|draft| played("steps that all differ", &draft)));
     all
 }
 
@@ -85,7 +83,7 @@ fn all_different(barriers: u8) -> Draft {
     draft(&sizes, (0..8).map(own).collect())
 }
 
-/// A relay that takes some 800 rounds. Registers are set in the first one and
+/// A relay that takes more than 700 rounds. Registers are set in the first one and
 /// stored at the end; the first worker waits meanwhile, with two locks.
 fn kept_over_rounds() -> Draft {
     let set =

@@ -69,7 +69,7 @@ pub struct Walk {
     waiting: [Vec<u8>; 8],
     meeting: [Vec<u8>; 8],
     filled: [bool; 8],
-    /// The condition that each worker was last woken from, and its round.
+    /// The condition that each worker was last woken from.
     woken: [Option<usize>; 8],
     last_wait: Option<usize>,
     /// Whoever woke last, in which round, and how many on end.
