@@ -1,6 +1,14 @@
 //! Counts of the rules that a run tried, so that a test can say that it left
 //! none of them out.
 
+mod board;
+mod limits;
+mod meeting;
+
+pub use board::{Board, Row};
+pub use limits::{Limit, Met, ROWS};
+pub use meeting::{Meetings, Move, Sight, Stand};
+
 use crate::check::Step;
 
 /// How often each op and each way of passing came up.
@@ -24,12 +32,15 @@ pub struct Counts {
     pub passes_without_token: u64,
     pub passes_out_of_list: u64,
     pub passes_behind_end: u64,
+    pub limits: Meetings,
 }
 
 impl Counts {
-    /// A step on registers or memory, met with these registers.
-    pub fn plain(&mut self, step: Step, registers: [u16; 4]) {
+    /// A step on registers or memory.
+    pub fn plain(&mut self, stand: Stand, step: Step, sight: &Sight) {
+        self.limits.plain(stand, step, sight);
         self.ops[usize::from(step.op)] += 1;
+        let registers = sight.registers;
         let own = registers[usize::from(step.register)];
         let over_border = step.number % 256 == 255;
         match step.op {
@@ -59,8 +70,9 @@ impl Counts {
     }
 
     /// A step of the holder, or its end of steps as op 38.
-    pub fn synchronising(&mut self, op: u8, end_of_steps: bool) {
-        match end_of_steps {
+    pub fn synchronising(&mut self, stand: Stand, op: u8) {
+        self.limits.synchronising(stand, op);
+        match stand.place == stand.length {
             true => self.ends_of_steps += 1,
             false => self.synchronising[usize::from(op - 32)] += 1,
         }
@@ -120,7 +132,8 @@ impl Counts {
         rows
     }
 
-    /// Adds the counts of another run.
+    /// Adds the counts of another run. The limits that it met are not kept;
+    /// a `Board` counts them.
     pub fn add(&mut self, other: &Counts) {
         add_all(&mut self.ops, &other.ops);
         add_all(&mut self.synchronising, &other.synchronising);

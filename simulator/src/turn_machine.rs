@@ -17,7 +17,7 @@
 //!   lie in different pages.
 
 use crate::check::{Plan, Step};
-use crate::counts::Counts;
+use crate::counts::{Counts, Move, Sight, Stand};
 use crate::format::{LOG_MARK, LOG_RECORD_LENGTH, MOST_WORKERS, OP_EXIT, REPORT_LENGTH};
 use crate::outcome::Outcome;
 
@@ -49,6 +49,8 @@ enum Fate {
 struct Worker {
     place: usize,
     registers: [u16; 4],
+    /// Registers that have been given a value; only counts need it.
+    known: [bool; 4],
     count: u8,
     copies: [Option<Box<PageCopy>>; PAGES],
     arrived: bool,
@@ -60,6 +62,7 @@ impl Worker {
         Worker {
             place: 0,
             registers: [0; 4],
+            known: [false; 4],
             count: 0,
             copies: Default::default(),
             arrived: false,
@@ -99,16 +102,29 @@ impl Worker {
         self.write(shared, address + 1, high);
     }
 
-    /// Writes every byte that differs from its twin and drops the copies.
-    fn commit(&mut self, shared: &mut [u8]) {
+    /// Writes every byte that differs from its twin and drops the copies. Says
+    /// how many bytes it wrote, which only counts need.
+    fn commit(&mut self, shared: &mut [u8]) -> usize {
+        let mut written = 0;
         for (page, slot) in self.copies.iter_mut().enumerate() {
             let Some(copy) = slot.take() else { continue };
             let target = &mut shared[page * PAGE_SIZE..][..PAGE_SIZE];
             for (offset, byte) in target.iter_mut().enumerate() {
                 if copy.working[offset] != copy.twin[offset] {
                     *byte = copy.working[offset];
+                    written += 1;
                 }
             }
+        }
+        written
+    }
+
+    /// What counts need to know of a step on registers or memory.
+    fn sight(&self) -> Sight {
+        Sight {
+            registers: self.registers,
+            known: self.known,
+            copied: self.copies.each_ref().map(Option::is_some),
         }
     }
 
@@ -121,6 +137,7 @@ impl Worker {
         let own = usize::from(step.register);
         let number = usize::from(step.number);
         self.place += 1;
+        self.known[own] |= matches!(step.op, 16 | 17 | 19 | 20);
         match step.op {
             16 => self.registers[own] = step.number,
             17 => self.registers[own] = self.load(shared, number),
@@ -172,6 +189,11 @@ pub struct Machine<'a> {
     log: Vec<u8>,
     end: End,
     counts: Counts,
+    /// Turns played, the number of the one that moved last, and the record
+    /// index of each worker's first step; only counts need them.
+    turns: usize,
+    last_moved: usize,
+    first: Vec<usize>,
 }
 
 impl<'a> Machine<'a> {
@@ -189,6 +211,9 @@ impl<'a> Machine<'a> {
             log: Vec::new(),
             end: End::Going,
             counts: Counts::default(),
+            turns: 0,
+            last_moved: 0,
+            first: first_records(plan),
         }
     }
 
@@ -204,11 +229,15 @@ impl<'a> Machine<'a> {
 
     /// Plays one turn and says whether it moved.
     pub fn turn(&mut self, worker: usize) -> bool {
-        let moved = self.try_move(worker);
-        if moved {
+        self.turns += 1;
+        let made = self.try_move(worker);
+        if let Some(made) = made {
             self.moves += 1;
+            self.last_moved = self.turns;
+            let ended = self.end != End::Going;
+            self.counts.limits.moved(self.turns, made, ended);
         }
-        moved
+        made.is_some()
     }
 
     /// Memory, log and report as they stand.
@@ -231,48 +260,72 @@ impl<'a> Machine<'a> {
         self.plan.steps[worker].get(place).copied().unwrap_or(end)
     }
 
-    fn try_move(&mut self, worker: usize) -> bool {
+    fn try_move(&mut self, worker: usize) -> Option<Move> {
         if self.end != End::Going {
             self.counts.passes_behind_end += 1;
-            return false;
+            return None;
         }
         if !self.list.contains(&worker) {
             self.counts.passes_out_of_list += 1;
-            return false;
+            return None;
         }
         let fence_full = self.list.iter().all(|&each| self.workers[each].arrived);
         if fence_full && self.list[0] != worker {
             self.counts.passes_without_token += 1;
-            return false;
+            return None;
         }
         if !fence_full && self.workers[worker].arrived {
             self.counts.passes_at_fence += 1;
-            return false;
+            return None;
         }
         let step = self.at_hand(worker);
         match (step.op >= 32, fence_full) {
-            (false, _) => self.plain_step(worker, step),
+            (false, _) => {
+                self.plain_step(worker, step);
+                Some(Move::OwnStep)
+            }
             (true, false) => {
                 self.workers[worker].arrived = true;
                 self.counts.arrivals += 1;
+                Some(Move::Arrival)
             }
-            (true, true) => self.token_step(worker, step),
+            (true, true) => {
+                self.token_step(worker, step);
+                Some(Move::Synchronising)
+            }
         }
-        true
+    }
+
+    /// Where a worker stands, as counts need to know it.
+    fn stand(&self, worker: usize) -> Stand {
+        Stand {
+            worker,
+            workers: self.workers.len(),
+            place: self.workers[worker].place,
+            length: self.plan.steps[worker].len(),
+            record: self.first[worker] + self.workers[worker].place,
+            count: self.workers[worker].count,
+        }
     }
 
     /// A step on registers or memory, by a runner or by the holder.
     fn plain_step(&mut self, worker: usize, step: Step) {
+        let stand = self.stand(worker);
         let own = &mut self.workers[worker];
-        self.counts.plain(step, own.registers);
+        self.counts.plain(stand, step, &own.sight());
         own.plain(&self.shared, step);
+        if step.op == 18 && self.workers.len() == MOST_WORKERS {
+            let copies = self.workers.iter().flat_map(|each| &each.copies);
+            self.counts.limits.copies(copies.flatten().count());
+        }
     }
 
     /// The holder carries out a synchronising step.
     fn token_step(&mut self, worker: usize, step: Step) {
-        let behind_last = self.workers[worker].place == self.plan.steps[worker].len();
-        self.counts.synchronising(step.op, behind_last);
+        let stand = self.stand(worker);
+        self.counts.synchronising(stand, step.op);
         let (outcome, token) = if self.fails(worker, step.op) {
+            self.counts.limits.failed(stand, step.op);
             self.fail(worker)
         } else {
             self.workers[worker].place += 1;
@@ -303,14 +356,22 @@ impl<'a> Machine<'a> {
             33 => self.unlock(worker),
             34 => self.wait(worker, step.number),
             // A broadcast is as a signal: it wakes the first waiter alone.
-            35 | 36 => self.signal(worker, step.number),
+            35 | 36 => {
+                let count = self.workers[worker].count;
+                self.counts.limits.signals(step.op, count);
+                self.signal(worker, step.number)
+            }
             37 => self.barrier(worker, step.number),
             _ => self.exit(worker),
         }
     }
 
     fn commit(&mut self, worker: usize) {
-        self.workers[worker].commit(&mut self.shared);
+        let copied = self.workers[worker].copies.iter().any(Option::is_some);
+        let written = self.workers[worker].commit(&mut self.shared);
+        if copied {
+            self.counts.limits.committed(written);
+        }
     }
 
     fn lock(&mut self, worker: usize) -> (u8, Token) {
@@ -318,12 +379,14 @@ impl<'a> Machine<'a> {
             self.commit(worker);
         }
         self.workers[worker].count += 1;
+        self.counts.limits.counted(32, self.workers[worker].count);
         (self.workers[worker].count, Token::Keep)
     }
 
     fn unlock(&mut self, worker: usize) -> (u8, Token) {
         self.workers[worker].count -= 1;
         let count = self.workers[worker].count;
+        self.counts.limits.counted(33, count);
         if count > 0 {
             return (count, Token::Keep);
         }
@@ -333,6 +396,7 @@ impl<'a> Machine<'a> {
 
     fn wait(&mut self, worker: usize, condition: u16) -> (u8, Token) {
         self.commit(worker);
+        self.counts.limits.waits(self.workers[worker].count);
         self.workers[worker].fate = Fate::OnCondition;
         self.parked.push((Spot::Condition(condition), worker));
         (NOBODY, Token::Leave)
@@ -344,6 +408,8 @@ impl<'a> Machine<'a> {
         let first = self.parked.iter().position(|&(at, _)| at == spot);
         let woken = first.map(|position| self.parked.remove(position).1);
         if let Some(waiter) = woken {
+            let kept = self.workers[waiter].count;
+            self.counts.limits.woken(kept, self.list.len());
             self.workers[waiter].fate = Fate::Going;
             self.list.insert(1, waiter);
         }
@@ -440,6 +506,17 @@ impl<'a> Machine<'a> {
     }
 }
 
+/// Behind the plan record come those of the barriers, then the steps.
+fn first_records(plan: &Plan) -> Vec<usize> {
+    let mut next = 1 + plan.barrier_sizes.iter().flatten().count();
+    let mut first = Vec::new();
+    for own in &plan.steps {
+        first.push(next);
+        next += own.len();
+    }
+    first
+}
+
 fn fate_byte(fate: Fate) -> u8 {
     match fate {
         Fate::Going => 0,
@@ -461,5 +538,7 @@ pub fn play_counted(plan: &Plan, memory: &[u8], turns: &[u8]) -> (Outcome, Count
     for &turn in turns {
         machine.turn(usize::from(turn));
     }
+    let last_moved = machine.last_moved;
+    machine.counts.limits.played(turns.len(), last_moved);
     (machine.outcome(), machine.counts)
 }

@@ -3,6 +3,7 @@
 
 use simulator::format::{LOG_LENGTH, RECORD_LENGTH};
 use simulator::generate::buffers::memory;
+use simulator::generate::last_turn::last_turn_moves;
 use simulator::generate::{plan, turns, Draft, PlanKind, Rng, Scenarios, TurnKind};
 use simulator::{check, play_rounds, play_turns, Outcome, Plan};
 
@@ -86,6 +87,59 @@ fn rounds_above_255() {
         assert_eq!(outcome.end(), 1);
         assert!(outcome.rounds() > 240, "{}", outcome.rounds());
     }
+}
+
+/// The most locks that a worker of a plan has on end, and the most workers
+/// that its log shows queued at once.
+fn depth_and_queue(draft: &Draft) -> (u8, usize) {
+    let read = check(&draft.file()).expect("an accepted plan");
+    let log = play_rounds(&read, &[0; 2_048]).log;
+    let locks = log.chunks_exact(8).filter(|record| record[5] == 32);
+    let depth = locks.map(|record| record[7]).max().unwrap_or(0);
+    let (mut queued, mut most) = (0_usize, 0);
+    for record in log.chunks_exact(8) {
+        match (record[5], record[7]) {
+            (34, 255) | (37, 0) => queued += 1,
+            (35 | 36, 0..8) => queued -= 1,
+            (37, size @ 1..=8) => queued -= usize::from(size) - 1,
+            _ => {}
+        }
+        most = most.max(queued);
+    }
+    (depth, most)
+}
+
+#[test]
+fn far_plans() {
+    let mut rng = Rng::new(24);
+    let (mut depth, mut queue) = (0, 0);
+    for round in 0..200 {
+        let draft = plan(&mut rng, PlanKind::FAR[round % PlanKind::FAR.len()]);
+        compare(&mut rng, &draft, &TurnKind::CHEAP);
+        let far = depth_and_queue(&draft);
+        (depth, queue) = (depth.max(far.0), queue.max(far.1));
+    }
+    assert!(depth == 128 && queue >= 7, "{depth}, {queue}");
+}
+
+#[test]
+fn the_last_turn_of_a_full_list_moves() {
+    let mut rng = Rng::new(25);
+    let mut ends = [0; 3];
+    for round in 0..40 {
+        let draft = plan(&mut rng, PlanKind::SMALL[round % PlanKind::SMALL.len()]);
+        let start = memory(&mut rng);
+        let Some(list) = last_turn_moves(&mut rng, &draft, &start) else {
+            continue;
+        };
+        assert!(matches!(list.len(), 65_534 | 65_535));
+        let read = check(&draft.file()).expect("an accepted plan");
+        let all = play_turns(&read, &start, &list);
+        let but_one = play_turns(&read, &start, &list[..list.len() - 1]);
+        assert_eq!(all.moving_turns(), but_one.moving_turns() + 1);
+        ends[usize::from(all.end())] += 1;
+    }
+    assert!(ends[0] > 5 && ends[1] > 5, "{ends:?}");
 }
 
 #[test]

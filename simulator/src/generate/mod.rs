@@ -5,7 +5,10 @@
 
 pub mod buffers;
 pub mod damage;
+pub mod deep;
 pub mod draft;
+pub mod last_turn;
+pub mod long_queues;
 pub mod plans;
 pub mod rng;
 pub mod scenario;

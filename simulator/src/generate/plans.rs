@@ -2,7 +2,9 @@
 
 use crate::check::Step;
 use crate::format::{MOST_STEPS, MOST_WORKERS, QUEUES};
+use crate::generate::deep::deep;
 use crate::generate::draft::{step, Draft};
+use crate::generate::long_queues::long_queues;
 use crate::generate::rng::Rng;
 use crate::generate::script::{add_skips, script, Taste, BLOCKS};
 
@@ -33,11 +35,15 @@ pub enum PlanKind {
     FullLog,
     /// One worker behind the other, so that rounds go far above 255.
     Relay,
+    /// High counts of locks.
+    Deep,
+    /// Nearly all workers in one queue.
+    LongQueues,
 }
 
 impl PlanKind {
     /// Every kind.
-    pub const ALL: [PlanKind; 12] = [
+    pub const ALL: [PlanKind; 14] = [
         PlanKind::Empty,
         PlanKind::Race,
         PlanKind::Locks,
@@ -50,7 +56,13 @@ impl PlanKind {
         PlanKind::Longest,
         PlanKind::FullLog,
         PlanKind::Relay,
+        PlanKind::Deep,
+        PlanKind::LongQueues,
     ];
+
+    /// The kinds that go to the limits of counts and queues. The stored plans
+    /// are made of the other kinds.
+    pub const FAR: [PlanKind; 2] = [PlanKind::Deep, PlanKind::LongQueues];
 
     /// The kinds whose plans are long.
     pub const LONG: [PlanKind; 3] = [PlanKind::Longest, PlanKind::FullLog, PlanKind::Relay];
@@ -84,6 +96,7 @@ impl PlanKind {
             PlanKind::Longest if rng.chance(1, 2) => [4, 4, 6, 0, 4, 0, 0, 0, 0],
             PlanKind::Longest => [12, 12, 18, 2, 14, 2, 0, 0, 0],
             PlanKind::FullLog | PlanKind::Relay => [0; BLOCKS],
+            PlanKind::Deep | PlanKind::LongQueues => [0; BLOCKS],
         }
     }
 }
@@ -101,6 +114,8 @@ pub fn plan(rng: &mut Rng, kind: PlanKind) -> Draft {
         PlanKind::FullLog => full_log(rng),
         PlanKind::Relay => relay(rng),
         PlanKind::Phases => phases(rng),
+        PlanKind::Deep => deep(rng),
+        PlanKind::LongQueues => long_queues(rng),
         _ => small(rng, kind),
     }
 }

@@ -5,6 +5,7 @@ use crate::generate::damage::{
     damaged_files, double_fault, fuzzed, showcase, single_fault, Damaged,
 };
 use crate::generate::draft::Draft;
+use crate::generate::last_turn::last_turn_moves;
 use crate::generate::plans::{plan, PlanKind};
 use crate::generate::rng::Rng;
 use crate::generate::turns::{misnamed, too_long, turns, TurnKind};
@@ -13,6 +14,8 @@ use crate::generate::turns::{misnamed, too_long, turns, TurnKind};
 #[derive(Clone, Copy, Debug, PartialEq, Eq)]
 pub enum ListKind {
     Made(TurnKind),
+    /// As long as a list may be, or one turn shorter, and its last turn moves.
+    LastMoves,
     /// Above 65,535 turns.
     TooLong,
     /// With a turn that names no worker.
@@ -73,13 +76,14 @@ impl Scenarios {
     pub fn of(&self, seed: u64) -> Scenario {
         let mut rng = Rng::new(seed);
         // Long plans are costly, so they come less often.
-        let kind = if rng.chance(1, 16) {
-            rng.pick(&PlanKind::LONG)
-        } else {
-            rng.pick(&PlanKind::SMALL)
+        let kind = match rng.below(48) {
+            0..3 => rng.pick(&PlanKind::LONG),
+            3..6 => rng.pick(&PlanKind::FAR),
+            _ => rng.pick(&PlanKind::SMALL),
         };
         let draft = plan(&mut rng, kind);
-        let (list, turns) = turn_list(&mut rng, &draft);
+        let memory = memory(&mut rng);
+        let (list, turns) = turn_list(&mut rng, &draft, &memory);
         let (file_label, file) = self.plan_file(&mut rng, &draft);
         let mut scenario = Scenario {
             label: format!("seed {seed}, {kind:?}, {list:?}, {file_label}"),
@@ -87,7 +91,7 @@ impl Scenarios {
             list,
             file,
             turns,
-            memory: memory(&mut rng),
+            memory,
             log: Vec::new(),
             report: Vec::new(),
             work: Vec::new(),
@@ -108,20 +112,33 @@ impl Scenarios {
     }
 }
 
-fn turn_list(rng: &mut Rng, draft: &Draft) -> (ListKind, Vec<u8>) {
+fn turn_list(rng: &mut Rng, draft: &Draft, memory: &[u8]) -> (ListKind, Vec<u8>) {
     let (workers, steps) = (draft.workers(), draft.step_count());
     match rng.below(64) {
         0 => (ListKind::TooLong, too_long(rng, workers)),
         1 | 2 => (ListKind::Misnamed, misnamed(rng, workers, steps)),
         // The longest lists are costly, so they come less often.
-        3 => (
-            ListKind::Made(TurnKind::Longest),
-            turns(rng, TurnKind::Longest, workers, steps),
-        ),
+        3 => longest_list(rng, draft, memory),
         _ => {
             let kind = rng.pick(&TurnKind::CHEAP);
             (ListKind::Made(kind), turns(rng, kind, workers, steps))
         }
+    }
+}
+
+/// A longest list, of which the last turn moves in half of the cases in which
+/// there is one of that kind.
+fn longest_list(rng: &mut Rng, draft: &Draft, memory: &[u8]) -> (ListKind, Vec<u8>) {
+    let moving = match rng.chance(1, 2) {
+        true => last_turn_moves(rng, draft, memory),
+        false => None,
+    };
+    match moving {
+        Some(list) => (ListKind::LastMoves, list),
+        None => (
+            ListKind::Made(TurnKind::Longest),
+            turns(rng, TurnKind::Longest, draft.workers(), draft.step_count()),
+        ),
     }
 }
 

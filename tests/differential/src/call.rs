@@ -43,6 +43,13 @@ pub struct Verdict {
     pub report: Vec<u8>,
 }
 
+impl Verdict {
+    /// The report's count of log records.
+    pub fn log_records(&self) -> usize {
+        usize::from(u16::from_le_bytes([self.report[6], self.report[7]]))
+    }
+}
+
 /// A buffer between guard bytes, at any alignment.
 struct Guarded {
     bytes: Vec<u8>,

@@ -2,12 +2,14 @@
 //! every buffer, the guard bytes around them included.
 //!
 //! `differential [--engine library|twin|OBJECT] [--seed N] [--count N]
-//! [--seconds N]`. The fixed parts come first, then `count` random calls, or
-//! as many as fit in the seconds. It ends with 1 at the first difference, and
-//! also if a long enough run left a rule untried.
+//! [--seconds N]`. The fixed parts come first, those at the limits of the paper
+//! before all, then `count` random calls, or as many as fit in the seconds. It
+//! ends with 1 at the first difference, and also if a long enough run left a
+//! rule or a limit untried.
 
 mod call;
 mod engine;
+mod limits;
 mod shrink;
 mod tally;
 mod test;
@@ -84,6 +86,7 @@ fn options(mut words: impl Iterator<Item = String>) -> Result<Options, String> {
 
 /// Plays all parts and gives the count of random calls.
 fn play(test: &mut Test, options: &Options) -> Result<u64, Box<Failure>> {
+    test.limits()?;
     test.damaged()?;
     test.lengths()?;
     test.vast()?;
@@ -113,8 +116,7 @@ fn more(options: &Options, done: u64, start: Instant) -> bool {
 }
 
 fn conclude(test: &Test, options: &Options, random: u64) -> ExitCode {
-    let rows = test.tally.rows(test.engine.can_run());
-    let zero = tally::print(&rows);
+    let zero = test.tally.print(test.engine.can_run());
     println!(
         "no difference: engine {}, seed {}, {random} random calls, {} runs and {} checks in all",
         options.engine, options.seed, test.tally.runs, test.tally.checks
@@ -149,13 +151,23 @@ fn print_call(call: &Call) {
     for record in call.file.chunks(7) {
         println!("  {}", hex(record));
     }
-    println!("turns, {}: {}", call.turns.len(), hex(&call.turns));
+    println!("turns, {}: {}", call.turns.len(), runs(&call.turns));
     let lengths = call.lent.each_ref().map(Vec::len);
     println!("lengths of memory, log, report, work: {lengths:?}");
     let memory = call.lent[0].iter().enumerate();
     for (address, byte) in memory.filter(|(_, byte)| **byte != 0).take(32) {
         println!("memory at {address}: {byte:02x}");
     }
+}
+
+/// Each turn, and how often it comes on end where it does so.
+fn runs(turns: &[u8]) -> String {
+    let each = |run: &[u8]| match run.len() {
+        1 => run[0].to_string(),
+        length => format!("{}*{length}", run[0]),
+    };
+    let runs: Vec<String> = turns.chunk_by(|a, b| a == b).map(each).collect();
+    runs.join(" ")
 }
 
 fn hex(bytes: &[u8]) -> String {

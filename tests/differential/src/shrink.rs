@@ -2,8 +2,10 @@
 
 use crate::call::Call;
 
-/// Tries at most, so that shrinking ends soon.
-const MOST_TRIES: usize = 30_000;
+/// Shrinking ends after so much work, a try being as much work as it has
+/// turns and a fixed part, which is that of its buffers.
+const MOST_WORK: usize = 300_000_000;
+const WORK_OF_A_TRY: usize = 10_000;
 
 /// Bytes of a record of the plan file.
 const RECORD: usize = 7;
@@ -13,7 +15,7 @@ pub fn shrink(call: &Call, fails: &dyn Fn(&Call) -> bool) -> Call {
     let mut shrinker = Shrinker {
         best: call.clone(),
         fails,
-        tries: 0,
+        work: 0,
     };
     loop {
         let before = shrinker.best.clone();
@@ -21,7 +23,7 @@ pub fn shrink(call: &Call, fails: &dyn Fn(&Call) -> bool) -> Call {
         shrinker.cut_turns();
         shrinker.cut_records();
         shrinker.fewer_workers();
-        if shrinker.best == before || shrinker.tries >= MOST_TRIES {
+        if shrinker.best == before || shrinker.work >= MOST_WORK {
             return shrinker.best;
         }
     }
@@ -30,16 +32,16 @@ pub fn shrink(call: &Call, fails: &dyn Fn(&Call) -> bool) -> Call {
 struct Shrinker<'a> {
     best: Call,
     fails: &'a dyn Fn(&Call) -> bool,
-    tries: usize,
+    work: usize,
 }
 
 impl Shrinker<'_> {
     /// Keeps the candidate if it still fails.
     fn try_one(&mut self, candidate: Call) -> bool {
-        if self.tries >= MOST_TRIES || candidate == self.best {
+        if self.work >= MOST_WORK || candidate == self.best {
             return false;
         }
-        self.tries += 1;
+        self.work += WORK_OF_A_TRY + candidate.turns.len();
         let kept = (self.fails)(&candidate);
         if kept {
             self.best = candidate;

@@ -1,10 +1,19 @@
 //! How often each rule came up. A rule that never did was not tested.
 
+mod answers;
+mod limits;
+mod logs;
+mod operands;
+mod queues;
+mod records;
+mod reports;
+
 use simulator::format::LOG_RECORD_LENGTH;
 use simulator::generate::{ListKind, PlanKind, TurnKind};
 use simulator::Counts;
 
-use crate::call::Verdict;
+use crate::call::{Call, Verdict};
+use limits::Limits;
 
 const OUTCOMES: [&str; 17] = [
     "lock, count 1",
@@ -46,32 +55,34 @@ pub struct Tally {
     fates: [u64; FATES.len()],
     run_answers: [u64; 14],
     check_answers: [u64; 11],
-    lists: [u64; TurnKind::ALL.len() + 2],
+    lists: [u64; TurnKind::ALL.len() + 3],
     plans: [u64; PlanKind::ALL.len()],
     late_rounds: u64,
     rounds: u64,
     vast: u64,
     tiny: u64,
+    limits: Limits,
 }
 
 impl Tally {
     /// An answer of a check.
-    pub fn check(&mut self, answer: u32) {
+    pub fn check(&mut self, file: &[u8], answer: u32) {
+        self.limits.check(file, answer);
         self.checks += 1;
         self.check_answers[(answer % 256) as usize] += 1;
     }
 
     /// What a run did.
-    pub fn run(&mut self, verdict: &Verdict) {
+    pub fn run(&mut self, call: &Call, verdict: &Verdict) {
+        self.limits.run(call, verdict);
         self.runs += 1;
         self.run_answers[(verdict.answer % 256) as usize] += 1;
         if verdict.answer != 0 {
             return;
         }
         self.tried.add(&verdict.counts);
-        let records = usize::from(u16::from_le_bytes([verdict.report[6], verdict.report[7]]));
         let log = verdict.log.chunks_exact(LOG_RECORD_LENGTH);
-        for record in log.take(records) {
+        for record in log.take(verdict.log_records()) {
             self.outcomes[outcome_kind(record[5], record[7])] += 1;
             self.late_rounds += u64::from(record[3] != 0);
         }
@@ -88,6 +99,7 @@ impl Tally {
             ListKind::Made(kind) => all.iter().position(|&each| each == kind),
             ListKind::TooLong => Some(all.len()),
             ListKind::Misnamed => Some(all.len() + 1),
+            ListKind::LastMoves => Some(all.len() + 2),
         };
         self.lists[place.expect("a kind of list")] += 1;
         let place = PlanKind::ALL.iter().position(|&each| each == plan);
@@ -109,8 +121,22 @@ impl Tally {
         self.tiny += 1;
     }
 
-    /// All rows; those of runs only if runs are tested.
-    pub fn rows(&self, with_runs: bool) -> Vec<(String, u64)> {
+    /// Prints all rows and gives the names of what never came up; rows of
+    /// runs only if runs are tested.
+    pub fn print(&self, with_runs: bool) -> Vec<String> {
+        let rows = self.rows(with_runs);
+        let boards = self.limits.boards(with_runs);
+        let limits = boards.iter().flat_map(|board| board.least());
+        for (name, count) in rows.iter().cloned().chain(limits) {
+            println!("{count:>12}  {name}");
+        }
+        let zero = rows.into_iter().filter(|(_, count)| *count == 0);
+        let missing = boards.iter().flat_map(|board| board.missing());
+        zero.map(|(name, _)| name).chain(missing).collect()
+    }
+
+    /// All rows but those of limits.
+    fn rows(&self, with_runs: bool) -> Vec<(String, u64)> {
         let mut rows = numbered("check: ", &self.check_answers);
         if !with_runs {
             return rows;
@@ -121,7 +147,7 @@ impl Tally {
         rows.extend(named("end: ", &ENDS, &self.ends));
         rows.extend(named("fate: ", &FATES, &self.fates));
         let mut lists: Vec<String> = TurnKind::ALL.map(|kind| format!("{kind:?}")).to_vec();
-        lists.extend(["TooLong".to_string(), "Misnamed".to_string()]);
+        lists.extend(["TooLong", "Misnamed", "LastMoves"].map(str::to_string));
         rows.extend(named("turn list: ", &lists, &self.lists));
         let plans = PlanKind::ALL.map(|kind| format!("{kind:?}"));
         rows.extend(named("plan: ", &plans, &self.plans));
@@ -137,15 +163,6 @@ impl Tally {
         rows.push(("turn list of a tiny plan".to_string(), self.tiny));
         rows
     }
-}
-
-/// Prints the rows and gives those that are zero.
-pub fn print(rows: &[(String, u64)]) -> Vec<&str> {
-    for (name, count) in rows {
-        println!("{count:>12}  {name}");
-    }
-    let zero = rows.iter().filter(|(_, count)| *count == 0);
-    zero.map(|(name, _)| name.as_str()).collect()
 }
 
 fn named(prefix: &str, names: &[impl AsRef<str>], counts: &[u64]) -> Vec<(String, u64)> {

@@ -8,6 +8,7 @@ use crate::call::{
     compare_check, compare_rounds, compare_run, compare_vast, compare_vast_check, Call, Difference,
 };
 use crate::engine::Engine;
+use crate::limits;
 use crate::tally::Tally;
 use crate::tiny;
 
@@ -50,13 +51,13 @@ impl Test {
     fn try_call(&mut self, label: &str, call: &Call) -> Done {
         let shift = self.rng.below(16);
         let (answer, difference) = compare_check(&self.engine, &call.file, shift);
-        self.tally.check(answer);
+        self.tally.check(&call.file, answer);
         settle(label, call, true, difference)?;
         if !self.engine.can_run() {
             return Ok(());
         }
         let (verdict, difference) = compare_run(&self.engine, call, shift);
-        self.tally.run(&verdict);
+        self.tally.run(call, &verdict);
         settle(label, call, false, difference)?;
         if verdict.answer == 0 && verdict.report[0] != 0 {
             self.tally.rounds();
@@ -81,7 +82,8 @@ impl Test {
     pub fn lengths(&mut self) -> Done {
         for which in 0..4 {
             let right = LENGTHS[which];
-            for wrong in [0, 1, right - 1, right, right + 1, 2 * right] {
+            let low_bits_right = right + 65_536;
+            for wrong in [0, 1, right - 1, right, right + 1, 2 * right, low_bits_right] {
                 let mut lengths = LENGTHS;
                 lengths[which] = wrong;
                 self.later_refusals(lengths)?;
@@ -134,10 +136,20 @@ impl Test {
             for list in plan.lists() {
                 call.turns = list;
                 let (verdict, difference) = compare_run(&self.engine, &call, 0);
-                self.tally.run(&verdict);
+                self.tally.run(&call, &verdict);
                 self.tally.tiny();
                 settle("a tiny plan", &call, false, difference)?;
             }
+        }
+        Ok(())
+    }
+
+    /// Plans and turn lists at each limit.
+    pub fn limits(&mut self) -> Done {
+        for limit in limits::all() {
+            let mut call = self.call(&limit.file, &limit.turns, LENGTHS);
+            call.lent[0] = limits::memory();
+            self.try_call(&limit.name, &call)?;
         }
         Ok(())
     }

@@ -1,0 +1,194 @@
+//! The limits of the paper that neither log nor report of a run shows, or
+//! not without the plan beside them.
+
+use crate::counts::board::Row;
+use crate::counts::{PLAIN, SYNCHRONISING};
+
+/// A row of limits.
+#[derive(Clone, Copy, Debug, PartialEq, Eq)]
+pub enum Limit {
+    OpsOfEight,
+    LastStep,
+    NoStep,
+    Border,
+    Edge,
+    PageStore,
+    AllCopied,
+    UnknownRegister,
+    Sum,
+    ExactWrap,
+    Skip,
+    SkipToEnd,
+    Lock,
+    Unlock,
+    FailedBarrier,
+    FailedExit,
+    FailedEnd,
+    Wait,
+    Waking,
+    WokenInto,
+    LastTurn,
+    TurnBeforeLast,
+    Set,
+    OpsByRegister,
+    CountedSignal,
+    Address,
+    TurnNumber,
+    RecordIndex,
+    Committed,
+}
+
+/// A row and the place in it of a limit that was met.
+pub type Met = (Limit, u16);
+
+const fn row(name: &'static str, members: usize, named: fn(usize) -> String) -> Row {
+    Row {
+        name,
+        members,
+        named,
+    }
+}
+
+/// The rows, in the order of `Limit`.
+pub const ROWS: [Row; 29] = [
+    row("step by op and worker, eight workers", 112, op_and_worker),
+    row("128th step", 8, worker),
+    row("end without a step", 8, worker),
+    row("word over a page border", 56, border),
+    row("first or last byte of a page", 32, edge),
+    row("store by page and worker", 64, page_and_worker),
+    row("eight pages of eight workers copied at once", 1, itself),
+    row("store of a register never set", 32, register_and_worker),
+    row("sum or difference by registers", 32, registers),
+    row("65,535 + 1 or 0 - 1", 2, exact_wrap),
+    row("skip by op, distance and whether taken", 506, skip),
+    row("skip just behind the last step, taken", 2, skip_op),
+    row("lock, count behind it", 128, from_one),
+    row("unlock, count behind it", 127, from_zero),
+    row("barrier failed, count", 127, from_one),
+    row("exit failed, count", 127, from_one),
+    row("end of steps failed, count", 128, from_one),
+    row("wait, count kept", 127, from_one),
+    row("woken, count kept", 127, from_one),
+    row("woken into a list, workers in it before", 7, from_one),
+    row("65,535th turn moved", 4, last_turn),
+    row("65,534th turn moved, the last one", 1, itself),
+    row("number set", SET.len(), |place| SET[place].to_string()),
+    row("own step by op and register", 28, op_and_register),
+    row("signal or broadcast, count", 254, signal_and_count),
+    row("load or store at address", 4_094, address),
+    row("moving turn of number", TURNS.len(), |place| {
+        TURNS[place].to_string()
+    }),
+    row("step of record", RECORDS.len(), |place| {
+        RECORDS[place].to_string()
+    }),
+    row("bytes written by a commit", COMMITTED.len(), |place| {
+        COMMITTED[place].to_string()
+    }),
+];
+
+/// Numbers at the limits of a byte, of a sign and of a register.
+pub const SET: [u16; 7] = [0, 255, 256, 32_767, 32_768, 65_534, 65_535];
+
+/// Counts of bytes; 128 steps store no more than 256.
+pub const COMMITTED: [usize; 5] = [0, 1, 2, 255, 256];
+
+/// Numbers of turns, the first being 1.
+pub const TURNS: [usize; 8] = [255, 256, 257, 32_767, 32_768, 32_769, 65_534, 65_535];
+
+/// Indices of records, the plan record being 0.
+pub const RECORDS: [usize; 8] = [255, 256, 257, 511, 512, 1_023, 1_024, 1_032];
+
+fn itself(_: usize) -> String {
+    "not met".to_string()
+}
+
+fn from_zero(place: usize) -> String {
+    place.to_string()
+}
+
+fn from_one(place: usize) -> String {
+    (place + 1).to_string()
+}
+
+fn worker(place: usize) -> String {
+    format!("worker {place}")
+}
+
+/// Names of the ops 16 to 22 and 32 to 38.
+fn op_and_worker(place: usize) -> String {
+    let ops = [PLAIN, SYNCHRONISING].concat();
+    format!("{}, worker {}", ops[place % 14], place / 14)
+}
+
+fn op_and_register(place: usize) -> String {
+    format!("{}, register {}", PLAIN[place / 4], place % 4)
+}
+
+fn signal_and_count(place: usize) -> String {
+    let op = SYNCHRONISING[3 + place / 127];
+    format!("{op}, {}", place % 127 + 1)
+}
+
+const LOAD_STORE: [&str; 2] = ["load", "store"];
+const COPIED: [&str; 4] = ["neither", "the lower", "the upper", "both"];
+
+fn border(place: usize) -> String {
+    let address = 255 + 256 * (place / 4 % 7);
+    let op = LOAD_STORE[place / 28];
+    format!("{op} at {address}, copied: {}", COPIED[place % 4])
+}
+
+fn address(place: usize) -> String {
+    format!("{} at {}", LOAD_STORE[place / 2_047], place % 2_047)
+}
+
+fn edge(place: usize) -> String {
+    let address = place / 2 % 8 * 256 + place % 2 * 255;
+    format!("{} of byte {address}", LOAD_STORE[place / 16])
+}
+
+fn page_and_worker(place: usize) -> String {
+    format!("page {}, worker {}", place % 8, place / 8)
+}
+
+fn register_and_worker(place: usize) -> String {
+    format!("register {}, worker {}", place % 4, place / 4)
+}
+
+fn registers(place: usize) -> String {
+    let op = PLAIN[3 + place / 16];
+    format!("{op}, registers {} and {}", place / 4 % 4, place % 4)
+}
+
+fn exact_wrap(place: usize) -> String {
+    ["65,535 + 1", "0 - 1"][place].to_string()
+}
+
+/// Only a first step can skip 127, and it finds zero in every register.
+fn skip(place: usize) -> String {
+    let (which, place) = (place / 253, place % 253);
+    let far = place / 2 + 1;
+    let taken = if far == 127 {
+        which == 0
+    } else {
+        place % 2 == 1
+    };
+    let taken = if taken { "taken" } else { "not taken" };
+    format!("{}, {far}, {taken}", PLAIN[5 + which])
+}
+
+fn skip_op(place: usize) -> String {
+    PLAIN[5 + place].to_string()
+}
+
+fn last_turn(place: usize) -> String {
+    let names = [
+        "an own step",
+        "an arrival",
+        "a synchronising step, the plan goes on",
+        "a synchronising step, the plan has ended",
+    ];
+    names[place].to_string()
+}

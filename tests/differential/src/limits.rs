@@ -1,0 +1,101 @@
+//! Plans and turn lists at each limit of the paper, always run before the
+//! random calls. Chance seldom or never goes so far.
+
+mod depths;
+mod full_lists;
+mod operands;
+mod pages;
+mod queues;
+mod refusals;
+mod skips;
+mod totals;
+
+use simulator::format::MEMORY_LENGTH;
+use simulator::generate::draft::step;
+use simulator::generate::Draft;
+use simulator::turn_machine::End;
+use simulator::{check, Machine, Plan, Step};
+
+/// A file and a turn list at a limit.
+pub struct Limit {
+    pub name: String,
+    pub file: Vec<u8>,
+    pub turns: Vec<u8>,
+}
+
+impl Limit {
+    fn new(name: &str, file: Vec<u8>, turns: Vec<u8>) -> Self {
+        Limit {
+            name: format!("at the limits: {name}"),
+            file,
+            turns,
+        }
+    }
+}
+
+/// All of them.
+pub fn all() -> Vec<Limit> {
+    let parts = [
+        depths::all(),
+        full_lists::all(),
+        operands::all(),
+        pages::all(),
+        queues::all(),
+        refusals::all(),
+        skips::all(),
+        totals::all(),
+    ];
+    parts.into_iter().flatten().collect()
+}
+
+/// The starting memory: no byte is zero, and pages differ from each other.
+pub fn memory() -> Vec<u8> {
+    let byte = |address: usize| (1 + (3 * address + 50 * (address / 256)) % 255) as u8;
+    (0..MEMORY_LENGTH).map(byte).collect()
+}
+
+/// A step as often as told.
+fn times(count: usize, op: u8, number: u16) -> Vec<Step> {
+    vec![step(op, 0, number); count]
+}
+
+fn draft(barriers: &[(u8, u16)], steps: Vec<Vec<Step>>) -> Draft {
+    Draft {
+        barriers: barriers.to_vec(),
+        steps,
+    }
+}
+
+fn plan_of(draft: &Draft) -> Plan {
+    check(&draft.file()).expect("an accepted plan")
+}
+
+/// The turns that move when cycles in this order are played to the end.
+fn moving_turns(plan: &Plan, order: &[u8]) -> Vec<u8> {
+    let mut machine = Machine::new(plan, &memory());
+    let mut moving = Vec::new();
+    while machine.end() == End::Going {
+        let cycle = order.iter().copied();
+        moving.extend(cycle.filter(|&worker| machine.turn(usize::from(worker))));
+    }
+    moving
+}
+
+fn rising(plan: &Plan) -> Vec<u8> {
+    (0..plan.workers() as u8).collect()
+}
+
+/// A plan under three lists: half of its moves, all of them, and cycles the
+/// other way round, which hold turns that pass and go on behind the end.
+fn played(name: &str, draft: &Draft) -> Vec<Limit> {
+    let (file, plan) = (draft.file(), plan_of(draft));
+    let moving = moving_turns(&plan, &rising(&plan));
+    let falling: Vec<u8> = rising(&plan).into_iter().rev().collect();
+    let half = moving[..moving.len() / 2].to_vec();
+    let cycles = falling.repeat(moving.len());
+    vec![
+        Limit::new(name, file.clone(), half),
+        Limit::new(name, file.clone(), moving),
+        Limit::new(name, file, cycles),
+    ]
+}
