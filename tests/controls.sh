@@ -23,15 +23,16 @@ replace() { # FILE OLD NEW: fails unless OLD stands there once, and the file cha
 }
 
 try() { # CRATE CONTROL: says why the control fails
-    local edit=${2%.control}.edit file='' old='' line pairs=0
+    local edit=${2%.control}.edit file='' old='' new line pairs=0
     [ -f "$edit" ] || { echo "no edit has this name"; return 1; }
     [ "$(place "$1" "$2")" = "$(place "$1" "$edit")" ] || { echo "it does not stand where the edit does"; return 1; }
     while IFS= read -r line; do
         case $line in
         'file: '*) file=crates/$1/${line#file: } ;;
         'old: '*) old=${line#old: } ;;
-        'new: '*)
-            replace "$copy/$file" "$old" "${line#new: }" || { echo "$old: not once in $file, or not changed"; return 1; }
+        'new:'*)
+            new=${line#new:}
+            replace "$copy/$file" "$old" "${new# }" || { echo "$old: not once in $file, or not changed"; return 1; }
             pairs=$((pairs + 1))
             ;;
         esac

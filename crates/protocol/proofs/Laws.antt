@@ -30,7 +30,7 @@ weights-at-start (x ∷ xs) = omega (arith, weights-at-start xs)
 
 pub start-measure : (plan : Plan) (memory : List ℕ) → measure plan (start plan memory) ≡ moveLimit plan
 unfolding measure start
-start-measure plan memory = weights-at-start (plan .steps)
+start-measure plan memory = omega (arith, weights-at-start (plan .steps))
 
 -- every worker, and whoever is none, begins as a new one
 new-at : (n w : ℕ) → getD (replicate n newWorker) w newWorker ≡ newWorker
