@@ -32,23 +32,24 @@ peel-two k n a m h e =
     peel (suc k) n (a % 256) (a / 256 + 256 * m) (omega arith) (omega arith)
     ∙ ap (λ (l : List ℕ). a % 256 ∷ l) (peel k (a / 256 + 256 * m) (a / 256) m (omega arith) refl ∙ ap (λ (x : ℕ). x ∷ bytesOf k m) high)
 
-pub packs : (r w o k c : ℕ) → r < 65536 → w < 256 → o < 256 → k < 256 → c < 256
-    → bytesOf 8 (19533 + 65536 * r + 4294967296 * (w + 256 * o + 65536 * (k + 256 * c))) ≡ entryBytes (entryAs r w o k c)
-packs r w o k c hr hw ho hk hc =
+-- any number of a record's value, however the sum is written
+pub packs : (n r w o k c : ℕ) → n ≡ 19533 + 65536 * r + 4294967296 * (w + 256 * o + 65536 * (k + 256 * c))
+    → r < 65536 → w < 256 → o < 256 → k < 256 → c < 256 → bytesOf 8 n ≡ entryBytes (entryAs r w o k c)
+packs n r w o k c is hr hw ho hk hc =
     let m₅ = o + 256 * (k + 256 * c) in
     let last : c % 256 ≡ c = omega arith in
-    peel-two 6 _ 19533 (r + 65536 * (w + 256 * m₅)) (omega arith) (omega arith)
+    peel-two 6 n 19533 (r + 65536 * (w + 256 * m₅)) (omega arith) (omega arith)
     ∙ ap (λ (l : List ℕ). 77 ∷ 76 ∷ l)
     (peel-two 4 _ r (w + 256 * m₅) hr refl
     ∙ ap (λ (l : List ℕ). twoBytes r ++ l)
     (peel 3 _ w m₅ hw refl
     ∙ ap (λ (l : List ℕ). w ∷ l) (peel 2 _ o (k + 256 * c) ho refl ∙ ap (λ (l : List ℕ). o ∷ l) (peel 1 _ k c hk refl ∙ ap (λ (x : ℕ). k ∷ x ∷ []) last))))
 
-pub packs-tallies : (e w m r k : ℕ) → e < 256 → w < 256 → m < 65536 → r < 65536
-    → bytesOf 8 (e + 256 * w + 65536 * (m + 65536 * (r + 65536 * k))) ≡ talliesOf e w m r k
-packs-tallies e w m r k he hw hm hr =
+pub packs-tallies : (n e w m r k : ℕ) → n ≡ e + 256 * w + 65536 * (m + 65536 * (r + 65536 * k))
+    → e < 256 → w < 256 → m < 65536 → r < 65536 → bytesOf 8 n ≡ talliesOf e w m r k
+packs-tallies n e w m r k is he hw hm hr =
     let m₂ = m + 65536 * (r + 65536 * k) in
-    peel 7 _ e (w + 256 * m₂) he (omega arith)
+    peel 7 n e (w + 256 * m₂) he (omega arith)
     ∙ ap (λ (l : List ℕ). e ∷ l)
     (peel 6 _ w m₂ hw refl
     ∙ ap (λ (l : List ℕ). w ∷ l) (peel-two 4 _ m (r + 65536 * k) hm refl ∙ ap (λ (l : List ℕ). twoBytes m ++ l) (peel-two 2 _ r k hr refl)))

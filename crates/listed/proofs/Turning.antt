@@ -8,7 +8,7 @@ use native.Mathlib.Decide.{decLt}
 use lib.ListN.{length, getD, set, take, length-append, List·getD-append}
 use lib.Seq.{getD-set-same, getD-set-other, getD-append-add, getD-take, ext-getD, length-take-le}
 use Rattle.protocol.specs.Format.{Record, stepsIn, firstIn, workersIn, countFrom, upTo, records, planIn, planOf}
-use Rattle.protocol.specs.Refusals.{check, accepted}
+use Rattle.protocol.specs.Refusals.{Verdict, accepted, check}
 use Rattle.protocol.specs.Turns.{workersOf}
 use Rattle.protocol.specs.RoundRun.{total, stepCount}
 use Rattle.protocol.specs.Listing.{cycles, listedTurns}
@@ -18,7 +18,7 @@ use Rattle.plan.specs.Answer.{verdictOf}
 use Rattle.plan.specs.Checking.{CheckedAs}
 use Rattle.plan.specs.declared.check.Checked.{Checked}
 use Rattle.plan.specs.declared.check.Layout.{Layout}
-use Rattle.listed.specs.Listed.{turnCount}
+use Rattle.listed.specs.Listed.{turnCount, turnsBy}
 
 -- ---- how many turns
 
@@ -168,7 +168,8 @@ whole-listed file turns steps n ok sameN sameSteps fits each =
 pub all-listed : (file turns : List ℕ) (l : Layout) (count : ℕ) → Sized file l → count ≡ turnCount (getD (l .firsts) (l .workers) 0 - getD (l .firsts) 0 0) (l .workers)
     → count ≤ length turns
     → ((i : ℕ) → i < count → getD turns i 0 ≡ i % l .workers)
-    → take count turns ≡ listedTurns (planOf file)
+    → take count turns ≡ turnsBy (check file) file
 all-listed file turns l count s same fits each =
     ap (λ (k : ℕ). take k turns) same
-    ∙ whole-listed file turns _ (l .workers) (s .ok) (s .workers) (omega (arith, s .counted)) (subst (λ (k : ℕ). k ≤ length turns) same fits) (λ i h. each i (subst⁻¹ (λ (k : ℕ). i < k) same h))
+    ∙ (whole-listed file turns _ (l .workers) (s .ok) (s .workers) (omega (arith, s .counted)) (subst (λ (k : ℕ). k ≤ length turns) same fits) (λ i h. each i (subst⁻¹ (λ (k : ℕ). i < k) same h))
+    ∙ sym (ap (λ (v : Verdict). turnsBy v file) (s .ok)))

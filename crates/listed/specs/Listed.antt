@@ -1,17 +1,24 @@
 -- Document 01, case 1: how many turns the listing program feeds a plan, and what it lists.
 use Prim.Native.Nat.{ℕ, _+_, _*_}
 use mathlib.Core.Path.{_≡_}
-use mathlib.Core.List.{List}
+use mathlib.Core.List.{List, []}
 use lib.ListN.{getD, replicate}
 use Rattle.protocol.specs.Format.{planOf}
+use Rattle.protocol.specs.Refusals.{Verdict, accepted, refused}
 use Rattle.protocol.specs.Rounds.{State}
 use Rattle.protocol.specs.RoundRun.{roundRun}
 use Rattle.protocol.specs.Report.{reportBytes}
 use Rattle.protocol.specs.Calls.{memorySize, checkCode, lentLog}
+use Rattle.protocol.specs.Listing.{listedTurns}
 
 -- how many turns these are
 abbrev pub turnCount : ℕ → ℕ → ℕ
 turnCount steps n = 2 * (steps + n) * n
+
+-- the turns of a file by the check's verdict: those of its plan, none where it is refused
+abbrev pub turnsBy : Verdict → List ℕ → List ℕ
+turnsBy accepted file = listedTurns (planOf file)
+turnsBy (refused f i) file = []
 
 -- the round-by-round run from zero memory
 abbrev pub listedRun : List ℕ → State

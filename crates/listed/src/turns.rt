@@ -4,10 +4,8 @@ use plan::check::check;
 ghost use mathlib.Core.Path.{_≡_};
 ghost use Prim.Native.Nat.{ℕ, _*_, _+_, _%_, _≤_, _<_};
 ghost use lib.ListN.{length, getD, take};
-ghost use Rattle.protocol.specs.Format.{planOf};
 ghost use Rattle.protocol.specs.Refusals as protocol;
-ghost use Rattle.protocol.specs.Listing.{listedTurns};
-ghost use Rattle.listed.specs.Listed.{turnCount};
+ghost use Rattle.listed.specs.Listed.{turnCount, turnsBy};
 
 // How many turns there are. The most are those of 8 workers with 128 steps each.
 fn turn_count(steps: usize, n: usize) -> usize
@@ -39,7 +37,7 @@ pub fn write_turns(file: &[u8], turns: &mut [u8]) -> usize
     requires { ⌜ 16512 ≤ length (now turns) ⌝ }
     ensures kept { λ _. ⌜ length (now (turns .exit)) ≡ length (now (turns .entry)) ⌝ }
     ensures within { λ r. ⌜ r ≤ 16512 ⌝ }
-    ensures listed { λ r. ⌜ (protocol.check (now (file .entry)) ≡ protocol.accepted → take r (now (turns .exit)) ≡ listedTurns (planOf (now (file .entry)))) ⌝ }
+    ensures listed { λ r. ⌜ take r (now (turns .exit)) ≡ turnsBy (protocol.check (now (file .entry))) (now (file .entry)) ⌝ }
 {
     let checked = check(file);
     let verdict = checked.verdict;

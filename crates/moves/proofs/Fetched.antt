@@ -1,6 +1,6 @@
 -- The step at a worker's place. Callers want `fetched`, `in-range` and what comes before them in the last module.
 use Prim.Native.Nat.{ℕ, zero, suc, _+_, _*_, _<_, _≤_}
-use mathlib.Core.Bool.{Bool, true, false, cond, not, _&&_, _||_}
+use mathlib.Core.Bool.{Bool, true, false, not, _&&_, _||_}
 use mathlib.Core.Logic.{inl, inr}
 use mathlib.Core.Option.{Option, some}
 use mathlib.Core.Path.{_≡_, refl, sym, ap, _∙_, subst⁻¹}
@@ -23,15 +23,13 @@ use Rattle.plan.specs.declared.decode.Record.{Record}
 use Rattle.moves.specs.Moves.{endBody, fetchedAs, stepOfBody, InRange}
 
 module _ (file : List ℕ) (first end place : ℕ) where
-  by-place : (b : Bool) → ltb (first + place) end ≡ b → fetchedAs file first end place ≡ cond b (bodyOf (recordFrom file (7 * (first + place)))) endBody
-  unfolding fetchedAs
-  by-place b e = ap (λ (t : Bool). cond t (bodyOf (recordFrom file (7 * (first + place)))) endBody) e
-
   pub fetched-step : first + place < end → fetchedAs file first end place ≡ bodyOf (recordFrom file (7 * (first + place)))
-  fetched-step h = by-place true (lt-ltb (first + place) end h)
+  unfolding fetchedAs
+  fetched-step h = rw (lt-ltb (first + place) end h)
 
   pub fetched-end : end ≤ first + place → fetchedAs file first end place ≡ endBody
-  fetched-end h = by-place false (le-ltb (first + place) end h)
+  unfolding fetchedAs
+  fetched-end h = rw (le-ltb (first + place) end h)
 
 step-body : (r : format.Record) → stepOfBody (bodyOf r) ≡ stepOf r
 unfolding stepOfBody stepOf

@@ -8,7 +8,7 @@ use lib.Dec.{eqb, ltb}
 use lib.ListN.{length, getD}
 use Rattle.protocol.specs.Format.{recordFrom, Step, stepOf}
 use Rattle.protocol.specs.Steps.{Fate, ownStep}
-use Rattle.protocol.specs.Pages.{Copies}
+use Rattle.protocol.specs.Pages.{Copies, loadWord}
 use Rattle.plan.specs.Answer.{bodyOf}
 use Rattle.plan.specs.declared.decode.Record.{Record}
 use Rattle.pages.specs.Copies.{copiesIn}
@@ -45,6 +45,10 @@ pub record InRange (sizes : List ℕ) (r : Record) : Type 0 where
 pub record OwnReady (v : Worker) (r : Record) : Type 0 where
   pub ready : Ready v (r .op) (r .register) (r .number)
   pub address : 17 ≤ r .op → r .op ≤ 18 → r .number ≤ 2046
+
+-- what a step reads of its address: a load, op 17, the number there, any other step 0
+abbrev pub readBy : ℕ → List ℕ → Copies → ℕ → ℕ
+readBy op memory copies address = cond (eqb op 17) (loadWord memory copies address) 0
 
 -- the copies after an own step: only a store, op 18, changes them
 abbrev pub copiesLeft : ℕ → Outcome → List ℕ → Copies → ℕ → Copies

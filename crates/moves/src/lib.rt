@@ -9,9 +9,8 @@ use worker::Worker;
 ghost use mathlib.Core.Path.{_≡_};
 ghost use Prim.Native.Nat.{_*_, _<_, _≤_};
 ghost use lib.ListN.{length};
-ghost use Rattle.protocol.specs.Pages.{loadWord};
 ghost use Rattle.pages.specs.Copies.{Sizes, copiesIn, WorkerHolds};
-ghost use Rattle.moves.specs.Moves.{fetchedAs, OwnReady, copiesLeft, OwnMoved};
+ghost use Rattle.moves.specs.Moves.{fetchedAs, readBy, OwnReady, copiesLeft, OwnMoved};
 
 // The record of the step at a worker's place, whose steps are the records from `first` to before `end`.
 pub fn fetch(file: &[u8], first: usize, end: usize, place: usize) -> Record
@@ -33,7 +32,7 @@ pub fn fetch(file: &[u8], first: usize, end: usize, place: usize) -> Record
 // What a load reads; 0 for any other step.
 fn loaded(r: Record, w: usize, memory: &[u8], work: &[u8], copied: &[bool; 64]) -> u16
     requires { ⌜ Sizes (now memory) (now work) × (w < 8) × (r .op ≡ 17 → r .number ≤ 2046) ⌝ }
-    ensures { λ l. ⌜ (r .op ≡ 17 → l ≡ loadWord (now (memory .entry)) (copiesIn (now (copied .entry)) (now (work .entry)) w) (r .number)) ⌝ }
+    ensures { λ l. ⌜ l ≡ readBy (r .op) (now (memory .entry)) (copiesIn (now (copied .entry)) (now (work .entry)) w) (r .number) ⌝ }
 {
     if r.op != 17 {
         return 0;

@@ -3,8 +3,7 @@ use Prim.Native.Nat.{ℕ, zero, suc, _+_, _*_, _<_, _≤_}
 use native.Mathlib.Omega.{arith}
 use native.Mathlib.Decide.{ℕ-discrete, decLt}
 use mathlib.Core.Path.{_≡_, refl, sym, ap, _∙_, subst⁻¹}
-use mathlib.Core.Logic.{_⊎_, inl, inr}
-use mathlib.Core.Bool.{Bool, cond}
+use mathlib.Core.Bool.{cond}
 use mathlib.Core.List.{List, [], _∷_}
 use lib.Dec.{eqb}
 use lib.ListN.{length, getD, set, take, length-set, length-take, List·getD-eq-default}
@@ -101,13 +100,15 @@ committed-as : (working twin : List ℕ) (offset shared x y : ℕ) → getD work
     → committed (copied working twin) offset shared ≡ cond (eqb x y) shared x
 committed-as working twin offset shared x y e f = cc
 
--- the code's choice
+-- the choice of a byte, however the code tests for it
 abbrev pub Chosen : ℕ → ℕ → ℕ → ℕ → Type 0
-Chosen shared b t v = ((b ≡ t → ⊥) × (v ≡ b)) ⊎ ((b ≡ t) × (v ≡ shared))
+Chosen shared b t v = (b ≡ t → v ≡ shared) × ((b ≡ t → ⊥) → v ≡ b)
 
 chosen : (shared b t v : ℕ) → Chosen shared b t v → v ≡ cond (eqb b t) shared b
-chosen shared b t v (inl (ne, e)) = e ∙ sym (ap (λ (x : Bool). cond x shared b) (ne-eqb b t ne))
-chosen shared b t v (inr (same, e)) = e ∙ sym (ap (λ (x : Bool). cond x shared b) (eq-eqb b t same))
+chosen shared b t v (same, differs) = elim (ℕ-discrete b t) [
+  | yes e ↦ rw (eq-eqb b t e) (same e)
+  | no ne ↦ rw (ne-eqb b t ne) (differs ne)
+]
 
 module _ (p : ℕ) (h : p < pageCount) (working twin memory : List ℕ) where
   -- what of the page stands in memory after i turns

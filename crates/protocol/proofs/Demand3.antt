@@ -1,13 +1,13 @@
 -- Demand 3, of the definitions: the outcome does not hang on who moved first.
-use Prim.Native.Nat.{ℕ, _+_}
+use Prim.Native.Nat.{ℕ}
 use native.Mathlib.Omega.{arith}
-use mathlib.Core.Path.{_≡_, refl, ap, subst⁻¹}
-use mathlib.Core.Bool.{true, cond}
+use mathlib.Core.Path.{_≡_, refl, subst⁻¹}
+use mathlib.Core.Bool.{true}
 use mathlib.Core.List.{List, [], _∷_}
 use Rattle.protocol.specs.Format.{Plan, planOf}
 use Rattle.protocol.specs.Refusals.{accepted, check}
 use Rattle.protocol.specs.Rounds.{Entry, State}
-use Rattle.protocol.specs.Turns.{workersOf, start, can, turn, play, movingTurns, ended}
+use Rattle.protocol.specs.Turns.{workersOf, start, turn, play, movingTurns, ended}
 use Rattle.protocol.specs.RoundRun.{roundRun}
 use Rattle.protocol.specs.Demands.{Demand3, Prefix}
 use Rattle.protocol.proofs.Sound.{Sound}
@@ -26,7 +26,7 @@ same-play plan s (w ∷ ws) = same-play plan (turn plan s w) ws
 same-moving : (plan : Plan) (s : State) (ts : List ℕ) → movingTurns plan s ts ≡ moved (machine plan) s ts
 unfolding turn movingTurns moved
 same-moving plan s [] = refl
-same-moving plan s (w ∷ ws) = ap (λ (k : ℕ). cond (can s w) 1 0 + k) (same-moving plan (turn plan s w) ws)
+same-moving plan s (w ∷ ws) = omega (arith, same-moving plan (turn plan s w) ws)
 
 -- the laws of this machine
 laws-hold : (plan : Plan) → Sound plan → Laws (machine plan) (Inv plan) (workersOf plan)

@@ -1,7 +1,7 @@
 -- Who can move, and moves before the fence: each changes its worker's record and the tally, so that two of them commute.
 use Prim.Native.Nat.{ℕ, _+_, _<_}
 use native.Mathlib.Omega.{arith}
-use mathlib.Core.Bool.{Bool, true, false, not, _&&_, _||_}
+use mathlib.Core.Bool.{Bool, true, false, _&&_, _||_}
 use mathlib.Core.Path.{_≡_, refl, sym, ap, _∙_, subst⁻¹}
 use mathlib.Core.List.{List, [], _∷_}
 use lib.Dec.{eqb}
@@ -24,19 +24,20 @@ first-is w [] q = clash q
 first-is w (v ∷ vs) q = (vs, rw (eqb-true w v q))
 
 pub can-view : (s : State) (w : ℕ) → can s w ≡ true → Can s w
-unfolding can
-can-view s w q = go (member w (s .list)) refl (workerAt s w .arrived) refl (allArrived s (s .list)) refl (isFirst w (s .list)) refl q
+unfolding can allArrived
+can-view s w q = go (member w (s .list)) refl (workerAt s w .arrived) refl (allArrived s (s .list)) refl (isFirst w (s .list)) refl
   where
     holder : workerAt s w .arrived ≡ true → allArrived s (s .list) ≡ true → (rest : List ℕ) × (s .list ≡ w ∷ rest) → Can s w
     holder a all r = holds (r .0) (r .1) a all
 
     go : (m : Bool) → member w (s .list) ≡ m → (a : Bool) → workerAt s w .arrived ≡ a → (all : Bool) → allArrived s (s .list) ≡ all
-        → (f : Bool) → isFirst w (s .list) ≡ f → (m && (not a || (all && f))) ≡ true → Can s w
-    go false m a p all r f t q = clash q
-    go true m false p all r f t q = runsUp m p
-    go true m true p false r f t q = clash q
-    go true m true p true r false t q = clash q
-    go true m true p true r true t q = holder p r (first-is w (s .list) t)
+        → (f : Bool) → isFirst w (s .list) ≡ f → Can s w
+    go false m a p all r f t = clash (simp m at q)
+    go true m false p all r f t = runsUp m p
+    go true m true p false r true t = clash (simp (m, p, r, t) at q)
+    go true m true p false r false t = clash (simp (m, p, r, t) at q)
+    go true m true p true r false t = clash (simp (m, p, r, t) at q)
+    go true m true p true r true t = holder p r (first-is w (s .list) t)
 
 -- whoever is in the list and has not arrived can move, and so can the first once all have arrived
 pub can-runUp : (s : State) (w : ℕ) → member w (s .list) ≡ true → workerAt s w .arrived ≡ false → can s w ≡ true
@@ -45,14 +46,17 @@ can-runUp s w m a = rw (m, a)
 
 pub can-hold : (s : State) (w : ℕ) (rest : List ℕ) → s .list ≡ w ∷ rest → allArrived s (s .list) ≡ true → can s w ≡ true
 unfolding can member
-can-hold s w rest e all =
-    subst⁻¹ (λ (b : Bool). (member w (s .list) && (not (workerAt s w .arrived) || (b && isFirst w (s .list)))) ≡ true) all
-    (subst⁻¹ (λ (ws : List ℕ). (member w ws && (not (workerAt s w .arrived) || (true && isFirst w ws))) ≡ true) e
-    (rw (eq-eqb w w refl) (go (workerAt s w .arrived))))
+can-hold s w rest e all = go (workerAt s w .arrived) refl
   where
-    go : (a : Bool) → (not a || true) ≡ true
-    go true = refl
-    go false = refl
+    inside : member w (s .list) ≡ true
+    inside = ap (λ (ws : List ℕ). member w ws) e ∙ rw (eq-eqb w w refl)
+
+    first : isFirst w (s .list) ≡ true
+    first = ap (λ (ws : List ℕ). isFirst w ws) e ∙ eq-eqb w w refl
+
+    go : (a : Bool) → workerAt s w .arrived ≡ a → can s w ≡ true
+    go true p = simp (inside, p, all, first)
+    go false p = can-runUp s w inside p
 
 pub all-arrived : (s : State) (w : ℕ) (ws : List ℕ) → allArrived s ws ≡ true → member w ws ≡ true → workerAt s w .arrived ≡ true
 unfolding allArrived member

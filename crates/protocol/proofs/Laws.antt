@@ -1,7 +1,7 @@
 -- The laws that this machine obeys, for any plan and state: what the theorem on machines asks.
 use Prim.Native.Nat.{ℕ, zero, suc, _+_, _*_, _<_}
 use native.Mathlib.Omega.{arith}
-use mathlib.Core.Bool.{Bool, true, false, not, _&&_, _||_}
+use mathlib.Core.Bool.{Bool, true, false, _&&_, _||_}
 use mathlib.Core.Path.{_≡_, refl, sym, ap, _∙_, subst⁻¹}
 use mathlib.Core.List.{List, [], _∷_, append-nil}
 use lib.Dec.{eqb}
@@ -10,7 +10,7 @@ use borrow.Author.Tests.{eq-eqb}
 use Rattle.protocol.specs.Format.{Step, own, sync, Sync, Plan, upTo}
 use Rattle.protocol.specs.Steps.{Worker, newWorker, stepsOf, stepAt}
 use Rattle.protocol.specs.Rounds.{State, workerAt, workerMoved, queueOf, Ruling, ruleOf, apply, syncMove, newRound, member}
-use Rattle.protocol.specs.Turns.{workersOf, start, allArrived, isFirst, can, behind, closing, closed, moveBy, move, ended, noneLeft}
+use Rattle.protocol.specs.Turns.{workersOf, start, allArrived, can, behind, closing, closed, moveBy, move, ended, noneLeft}
 use Rattle.protocol.specs.RoundRun.{total, moveLimit}
 use Rattle.protocol.specs.Demands.{occurs, Prefix}
 use Rattle.protocol.proofs.Sound.{Sound}
@@ -30,7 +30,7 @@ weights-at-start (x ∷ xs) = omega (arith, weights-at-start xs)
 
 pub start-measure : (plan : Plan) (memory : List ℕ) → measure plan (start plan memory) ≡ moveLimit plan
 unfolding measure start
-start-measure plan memory = weights-at-start (plan .steps)
+start-measure plan memory = omega (arith, weights-at-start (plan .steps))
 
 -- every worker, and whoever is none, begins as a new one
 new-at : (n w : ℕ) → getD (replicate n newWorker) w newWorker ≡ newWorker
@@ -208,12 +208,11 @@ grows plan s w = go (stepAt plan w (workerAt s w .place)) (workerAt s w .arrived
 
 pub end-stops : (s : State) (w : ℕ) → ended s ≡ true → can s w ≡ false
 unfolding can member
-end-stops s w q = go (s .list) q
+end-stops s w q = rw (nobody (s .list) q)
   where
-    go : (ws : List ℕ) → noneLeft ws ≡ true
-        → (member w ws && (not (workerAt s w .arrived) || (allArrived s ws && isFirst w ws))) ≡ false
-    go [] q = refl
-    go (x ∷ xs) q = clash q
+    nobody : (ws : List ℕ) → noneLeft ws ≡ true → member w ws ≡ false
+    nobody [] q = refl
+    nobody (x ∷ xs) q = clash q
 
 or-right : (b : Bool) {c : Bool} → c ≡ true → (b || c) ≡ true
 or-right true q = refl

@@ -1,21 +1,24 @@
 -- The laws of the rules: each branch of the code as the definitions have it.
 -- Assumes nothing.
-use Prim.Native.Nat.{ℕ, _+_, _≤_}
+use Prim.Native.Nat.{ℕ, _+_, _-_, _≤_}
 use native.Mathlib.Nat.{eq-or-lt-of-le}
 use native.Mathlib.Omega.{arith}
+use borrow.Author.Tests.{ne-eqb}
 use mathlib.Core.Bool.{true, false}
 use mathlib.Core.Logic.{⊎-elim}
 use mathlib.Core.Path.{_≡_, refl, sym, _∙_}
 use mathlib.Core.List.{List, [], _∷_}
 use lib.ListN.{length, getD, take}
 use Rattle.protocol.specs.Rounds as rounds
-use Rattle.protocol.specs.Rounds.{member, committed, givesAtZero, lockRule, unlockRule, waitRule, signalRule, barrierRule, exitRule, ruleOf}
+use Rattle.protocol.specs.Rounds.{member, committed, keeps, givesAtZero, lockRule, unlockRule, waitRule, signalRule, barrierRule, exitRule, ruleOf}
 use Rattle.protocol.specs.Turns.{noneLeft}
 use Rattle.queue.specs.declared.Queue.{Queue}
 use Rattle.queue.specs.List.{listOf, Good, Holds, Below}
+use Rattle.rules.specs.declared.ruling.Bytes.{Bytes}
+use Rattle.rules.specs.declared.ruling.Goes.{Goes}
 use Rattle.rules.specs.declared.ruling.Ruling.{Ruling}
-use Rattle.rules.specs.Codes.{conditionCode, barrierCode, syncOf}
-use Rattle.rules.specs.Rules.{found, Coded, Sound, Means, Ruled}
+use Rattle.rules.specs.Codes.{conditionCode, barrierCode, bytesOf, goesOf, syncOf}
+use Rattle.rules.specs.Rules.{found, Coded, AtZero, Commits, Sound, Means, Ruled}
 
 -- a ruling that wakes nobody
 pub asleep : {held number : ℕ} {waiting : Queue} {on : List ℕ} {r : Ruling} → r .wakes ≡ false → Coded (r .goes) → r .held ≤ held + 1
@@ -40,6 +43,16 @@ unfolding member
 calm {held} {number} {waiting} {on} {r} w j e h none =
     asleep w e h (none .good) (rw (none .list) (λ v m. absurd (let n : _≡_ {A = ℕ} 0 1 = cc in omega arith))) (rw (none .list) (omega arith))
     (λ y. let z : true ≡ false = sym y ∙ j in cc)
+
+-- a lock's and an unlock's ruling by the numbers in it, however the code works them out
+pub locks : (held rises outcome : ℕ) {count : ℕ} {bytes : Bytes} → Commits count bytes → count ≡ held → rises ≡ held + 1 → outcome ≡ held + 1
+    → rounds.ruling (bytesOf bytes) rises keeps [] [] outcome ≡ lockRule held
+locks held rises outcome b e h o = rw (b .same, e, h, o)
+
+pub unlocks : (held left outcome : ℕ) {count given : ℕ} {bytes : Bytes} {goes : Goes} → (held ≡ 0 → ⊥) → Commits count bytes → AtZero given goes
+    → count ≡ held - 1 → given ≡ held - 1 → left ≡ held - 1 → outcome ≡ held - 1
+    → rounds.ruling (bytesOf bytes) left (goesOf goes) [] [] outcome ≡ unlockRule held
+unlocks held left outcome some b g e f h o = rw (b .same, g .same, e, f, h, o, ne-eqb held 0 some)
 
 pub wakes-none : (qs : List ℕ) (held : ℕ) → noneLeft qs ≡ true → signalRule qs held ≡ rounds.ruling committed held (givesAtZero held) [] [] 255
 wakes-none [] held e = refl

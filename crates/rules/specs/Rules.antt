@@ -9,9 +9,10 @@ use Rattle.protocol.specs.Format.{Plan}
 use Rattle.protocol.specs.Steps as steps
 use Rattle.protocol.specs.Steps.{onCondition, atBarrier}
 use Rattle.protocol.specs.Rounds as rounds
-use Rattle.protocol.specs.Rounds.{keep, fateAfter, givesAtZero, ruleOf}
+use Rattle.protocol.specs.Rounds.{keep, fateAfter, commitsAtZero, givesAtZero, ruleOf}
 use Rattle.queue.specs.declared.Queue.{Queue}
 use Rattle.queue.specs.List.{listOf, Good, Below}
+use Rattle.rules.specs.declared.ruling.Bytes.{Bytes}
 use Rattle.rules.specs.declared.ruling.Goes.{Goes}
 use Rattle.rules.specs.declared.ruling.Ruling.{Ruling}
 use Rattle.rules.specs.Codes.{fateCode, conditionCode, barrierCode, bytesOf, goesOf, codeAfter, syncOf}
@@ -40,6 +41,10 @@ Coded goes = fateCode (fateAfter (goesOf goes)) ≡ codeAfter goes
 pub record AtZero (held : ℕ) (goes : Goes) : Type 0 where
   pub same : goesOf goes ≡ givesAtZero held
   pub coded : Coded goes
+
+-- what becomes of the copies of a holder that commits with count 0
+pub record Commits (held : ℕ) (bytes : Bytes) : Type 0 where
+  pub same : bytesOf bytes ≡ commitsAtZero held
 
 -- what holds of every ruling, by a holder of so many locks at a step with this number, where these wait
 pub record Sound (held number : ℕ) (waiting : Queue) (on : List ℕ) (r : Ruling) : Type 0 where

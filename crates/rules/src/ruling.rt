@@ -1,13 +1,12 @@
 // The rule of each synchronising step.
 use queue::Queue;
 ghost use mathlib.Core.List.{List};
-ghost use mathlib.Core.Path.{_≡_};
 ghost use Prim.Native.Nat.{ℕ, _≤_};
-ghost use Rattle.protocol.specs.Rounds.{failure, commitsAtZero, lockRule, unlockRule, waitRule, signalRule, barrierRule, exitRule};
+ghost use Rattle.protocol.specs.Rounds.{failure, lockRule, unlockRule, waitRule, signalRule, barrierRule, exitRule};
 ghost use Rattle.queue.specs.List.{listOf, Good, Below};
 ghost use Rattle.queue.specs.declared.Queue.{Queue};
-ghost use Rattle.rules.specs.Codes.{conditionCode, barrierCode, bytesOf};
-ghost use Rattle.rules.specs.Rules.{found, AtZero, Met, Asks, Means, Ruled};
+ghost use Rattle.rules.specs.Codes.{conditionCode, barrierCode};
+ghost use Rattle.rules.specs.Rules.{found, AtZero, Commits, Met, Asks, Means, Ruled};
 
 // The code of the fate of a worker that waits is one of these and twice the number of what it waits on.
 pub const ON_CONDITION: u64 = 4;
@@ -62,7 +61,7 @@ fn gives_at_zero(held: u64) -> Goes
 }
 
 fn commits_at_zero(held: u64) -> Bytes
-    ensures { λ r. ⌜ bytesOf r ≡ commitsAtZero held ⌝ }
+    ensures { λ r. ⌜ Commits held r ⌝ }
 {
     if held == 0 {
         Bytes::Committed

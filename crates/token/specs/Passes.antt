@@ -1,6 +1,6 @@
 -- Turns that pass.
-use Prim.Native.Nat.{ℕ, _≤_, _<_}
-use mathlib.Core.Bool.{Bool, false}
+use Prim.Native.Nat.{ℕ, zero, suc, _≤_, _<_}
+use mathlib.Core.Bool.{Bool, true, false, not, _&&_}
 use mathlib.Core.Path.{_≡_}
 use mathlib.Core.List.{List}
 use lib.ListN.{length, getD}
@@ -23,6 +23,7 @@ pub record Spans (turns : List ℕ) (from to least most : ℕ) : Type 0 where
   pub high : (i : ℕ) → from ≤ i → i < to → getD turns i 0 ≤ most
   pub below : most < 8
 
--- from one worker to before another none can move
-abbrev pub NoneMoves : List Bool → ℕ → ℕ → Type 0
-NoneMoves can from to = (w : ℕ) → from ≤ w → w < to → getD can w false ≡ false
+-- whether none of so many workers can move, from one on
+unfoldable pub noneMoves : List Bool → ℕ → ℕ → Bool
+noneMoves can zero w = true
+noneMoves can (suc k) w = not (getD can w false) && noneMoves can k (suc w)

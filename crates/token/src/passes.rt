@@ -1,11 +1,11 @@
 // Turns that pass, many at a time.
-ghost use mathlib.Core.Bool.{true};
 ghost use mathlib.Core.Path.{_≡_};
-ghost use Prim.Native.Nat.{_+_, _≤_, _<_};
+ghost use Prim.Native.Nat.{_+_, _-_, _≤_, _<_};
 ghost use lib.ListN.{length};
-ghost use Rattle.token.specs.Passes.{Ahead, Passed, Spans, NoneMoves};
+ghost use Rattle.token.specs.Passes.{Ahead, Passed, Spans, noneMoves};
 
-// The least and the greatest worker that a block of turns names.
+// A block of turns names no worker below the least and none above the most. Whether it names these two is left open: a wider
+// range would cost time, and no turn that moves would be passed over.
 pub struct Range {
     pub least: u8,
     pub most: u8,
@@ -37,7 +37,7 @@ fn span(turns: &[u8], at: usize) -> Range
 // Whether none of the workers from least to most can move.
 fn idle(can: &[bool; 8], least: u8, most: u8) -> bool
     requires { ⌜ most < 8 ⌝ }
-    ensures { λ b. ⌜ (b ≡ true → NoneMoves (now (can .entry)) least (most + 1)) ⌝ }
+    ensures { λ b. ⌜ b ≡ noneMoves (now (can .entry)) (most + 1 - least) least ⌝ }
 {
     let mut w = least as usize;
     let last = most as usize;
@@ -66,7 +66,8 @@ fn blocks(turns: &[u8], from: usize, can: &[bool; 8]) -> usize
     i
 }
 
-// The next turn that may move, or one before it. Blocks pay only where none of the nearest turns moves.
+// The next turn that may move, or one before it. How far before is left open, since each turn from there on is looked at again.
+// Blocks pay only where none of the nearest turns moves.
 pub fn pass_over(turns: &[u8], from: usize, can: &[bool; 8]) -> usize
     requires { ⌜ Ahead (now turns) from ⌝ }
     ensures { λ r. ⌜ Passed (now (turns .entry)) (now (can .entry)) from r ⌝ }

@@ -1,8 +1,10 @@
 -- The laws of a worker's own steps: by the op they are what the definitions say. Callers want `step-own`.
 -- Assumes nothing.
 use Prim.Native.Nat.{ℕ, _+_, _-_, _%_, _≤_, _<_}
+use native.Mathlib.Decide.{ℕ-discrete}
 use native.Mathlib.Omega.{arith}
-use mathlib.Core.Bool.{Bool, true, false, cond, not, Bool·beq}
+use borrow.Author.Tests.{eq-eqb, ne-eqb}
+use mathlib.Core.Bool.{Bool, true, false, cond, not}
 use mathlib.Core.Option.{none, some}
 use mathlib.Core.Path.{_≡_, refl}
 use mathlib.Core.List.{List}
@@ -24,16 +26,23 @@ step-own r least most =
     each (λ op. elim (rowOf op) [ none ↦ sync exit | some x ↦ x .step (r .register) (r .number) ] ≡ own (ownOf op (r .register) (r .number))) 16 6
     refl refl refl refl refl refl refl (r .op) least most
 
--- the test of a skip, as the code has it
-pub skip-beq : (op value number : ℕ) {b : Bool} → Bool·beq (eqb op 21) (eqb value 0) ≡ b → cond b number 0 ≡ skipOf op value number
+-- a skip by its two tests, however the code puts them together
+pub skip-by : (op value number : ℕ) {r : ℕ}
+    → (op ≡ 21 → value ≡ 0 → r ≡ number) → (op ≡ 21 → (value ≡ 0 → ⊥) → r ≡ 0)
+    → ((op ≡ 21 → ⊥) → value ≡ 0 → r ≡ 0) → ((op ≡ 21 → ⊥) → (value ≡ 0 → ⊥) → r ≡ number)
+    → r ≡ skipOf op value number
 unfolding skipOf
-skip-beq op value number e = rw (← e) (go (eqb op 21) (eqb value 0))
-  where
-    go : (a z : Bool) → cond (Bool·beq a z) number 0 ≡ cond (cond a z (not z)) number 0
-    go true true = refl
-    go true false = refl
-    go false true = refl
-    go false false = refl
+skip-by op value number both first second neither =
+    elim (ℕ-discrete op 21) [
+      | yes a ↦ elim (ℕ-discrete value 0) [
+        | yes z ↦ rw (eq-eqb op 21 a, eq-eqb value 0 z) (both a z)
+        | no z ↦ rw (eq-eqb op 21 a, ne-eqb value 0 z) (first a z)
+      ]
+      | no a ↦ elim (ℕ-discrete value 0) [
+        | yes z ↦ rw (ne-eqb op 21 a, eq-eqb value 0 z) (second a z)
+        | no z ↦ rw (ne-eqb op 21 a, ne-eqb value 0 z) (neither a z)
+      ]
+    ]
 
 -- the code's wrapped sum and difference are the definition's
 module _ (registers : List ℕ) (op value number loaded : ℕ) {operand r : ℕ} (holds : operand ≡ getD registers number 0) where

@@ -1,9 +1,10 @@
 -- `any_copy`: after p turns, whether one of the first p pages is copied.
-use Prim.Native.Nat.{ℕ, _-_, _≤_}
+use Prim.Native.Nat.{ℕ, suc, _-_, _≤_}
 use native.Mathlib.Numerals.{add-one}
 use native.Mathlib.Omega.{arith}
 use mathlib.Core.Path.{_≡_, refl, ap, _∙_}
 use mathlib.Core.Bool.{Bool, false, _||_}
+use mathlib.Core.List.{List}
 use lib.ListN.{getD}
 use borrow.Author.Needs.{needs}
 use Rattle.protocol.specs.Pages.{pageCount}
@@ -21,6 +22,11 @@ loop-holds : tie.Need-loop-holds Inv-loop μ-loop
 unfolding anyCopied
 loop-holds c = (omega arith, refl)
 
+-- one page more, wherever the code looks its mark up
+any-more : (marks : List Bool) (w p at : ℕ) (any : Bool) → any ≡ anyCopied marks w p → at ≡ slotOf w p → (any || getD marks at false) ≡ anyCopied marks w (suc p)
+unfolding anyCopied
+any-more marks w p at any e place = rw (e, place)
+
 mul-any : tie.Need-mul-any Inv-loop μ-loop
 mul-any c = search needs
 
@@ -37,11 +43,10 @@ loop-less : tie.Need-loop-less Inv-loop μ-loop
 loop-less c = search needs
 
 loop-again : tie.Need-loop-again Inv-loop μ-loop
-unfolding anyCopied
 loop-again c =
     let l = c .before .before in
     let a = l .before .args in
-    (search needs, rw add-one (ap (λ (b : Bool). b || getD (a .copied .now) (slotOf (a .w) (l .loop .p)) false) (l .loop .inv .1)))
+    (search needs, rw add-one (any-more (a .copied .now) (a .w) (l .loop .p) _ _ (l .loop .inv .1) (omega arith)))
 
 returns : tie.Need-returns Inv-loop μ-loop
 returns c =

@@ -2,7 +2,7 @@
 use Prim.Native.Nat.{_-_, _<_, _≤_}
 use native.Mathlib.Omega.{arith}
 use mathlib.Core.Path.{_≡_, refl, ap, _∙_}
-use mathlib.Core.Logic.{inl, inr, ⊎-elim}
+use mathlib.Core.Logic.{⊎-elim}
 use lib.ListN.{length, set, take}
 use borrow.Author.Tests.{not-true, not-false}
 use borrow.Author.Needs.{needs}
@@ -87,7 +87,7 @@ loop-again c =
       done-more (a .p) (search needs) (part (copyAt (a .slot)) (a .work .now)) (part (twinAt (a .slot)) (a .work .now)) (a .memory .now)
           i ih (omega (arith, start .pre)) (l .loop .memory) _ _ (c .if2 .memory) (l .loop .inv .2)
           (getD-part (copyAt (a .slot)) (a .work .now) i ih) (getD-part (twinAt (a .slot)) (a .work .now) i ih)
-          (⊎-elim (λ w. inl (w .0 .taken, w .1)) (λ w. inr (w .0 .left, w .1)) (c .if2 .came)),
+          (λ same. ⊎-elim (λ w. omega arith) (λ w. omega arith) (c .if2 .came), λ differs. ⊎-elim (λ w. omega arith) (λ w. omega arith) (c .if2 .came)),
     )
 
 same-length : tie.Need-same-length Inv-loop μ-loop

@@ -1,4 +1,6 @@
 use borrow.Author.Needs.{needs}
+use native.Mathlib.Omega.{arith}
+use mathlib.Core.Path.{_≡_}
 use Rattle.tampermauve.specs.Run.{lent}
 use Rattle.tampermauve.proofs.Ran.{ran, refusal, acceptance}
 use Rattle.tampermauve.proofs.Left.{ends, left-same}
@@ -13,18 +15,18 @@ returns : tie.Need-returns
 returns c =
     let a = c .before .before .before .before .before .before .before .before .before .args in
     ran (a .file .now) (a .turns .now) (lent (a .memory .now) (a .log .now) (a .report .now) (a .work .now)) _ _
-    (refusal (a .file .now) (a .turns .now) (lent (a .memory .now) (a .log .now) (a .report .now) (a .work .now)) _ (c .before .before .admit .ensures .code) (c .if1 .taken))
+    (refusal (a .file .now) (a .turns .now) (lent (a .memory .now) (a .log .now) (a .report .now) (a .work .now)) _ (c .before .before .admit .ensures .code) (λ e. omega (arith, e, c .if1 .taken)))
 
 play-requires : tie.Need-play-requires
 play-requires c κs =
     let a = c .before .before .before .before .before .before .before .before .before .before .before .before .before .before .before .before .args in
-    playing (a .file .now) (a .turns .now) (lent (a .memory .now) (a .log .now) (a .report .now) (a .work .now)) _ (c .before .before .before .before .before .before .before .before .before .admit .ensures) (c .before .before .before .before .before .before .before .if1 .left)
+    playing (a .file .now) (a .turns .now) (lent (a .memory .now) (a .log .now) (a .report .now) (a .work .now)) _ (c .before .before .before .before .before .before .before .before .before .admit .ensures) (omega (arith, c .before .before .before .before .before .before .before .if1 .left))
 
 close-buffers-requires : tie.Need-close-buffers-requires
 close-buffers-requires c κs =
     let a = c .before .before .before .before .before .before .before .before .before .before .before .before .before .before .before .before .before .before .before .before .before .before .before .before .before .before .before .before .before .args in
     let h = c .before .before .before .before .before .before .before .before .before .before .before .before .before .before .before .before .before .before .before .before .before .before .admit .ensures in
-    let z = c .before .before .before .before .before .before .before .before .before .before .before .before .before .before .before .before .before .before .before .before .if1 .left in
+    let z : c .before .before .before .before .before .before .before .before .before .before .before .before .before .before .before .before .before .before .before .before .before .before .admit .result .code ≡ 0 = omega (arith, c .before .before .before .before .before .before .before .before .before .before .before .before .before .before .before .before .before .before .before .before .if1 .left) in
     ends (a .file .now) (a .turns .now) (a .memory .now) (ok (a .file .now) (a .turns .now) (lent (a .memory .now) (a .log .now) (a .report .now) (a .work .now)) _ h z) (c .before .before .before .before .before .before .before .before .before .before .before .before .play .result) _
     (workers-right (a .file .now) (a .turns .now) (lent (a .memory .now) (a .log .now) (a .report .now) (a .work .now)) _ h z) (c .before .before .before .before .before .before .before .before .before .before .before .before .play .ensures)
     (fits (a .file .now) (a .turns .now) (lent (a .memory .now) (a .log .now) (a .report .now) (a .work .now)) _ h z .report)
@@ -45,7 +47,7 @@ returns-2 : tie.Need-returns-2
 returns-2 c =
     let a = c .before .before .before .before .before .before .before .before .before .before .before .before .before .before .before .before .before .before .before .before .before .before .before .before .before .before .before .before .before .before .before .before .before .before .before .before .args in
     let h = c .before .before .before .before .before .before .before .before .before .before .before .before .before .before .before .before .before .before .before .before .before .before .before .before .before .before .before .before .before .admit .ensures in
-    let z = c .before .before .before .before .before .before .before .before .before .before .before .before .before .before .before .before .before .before .before .before .before .before .before .before .before .before .before .if1 .left in
+    let z : c .before .before .before .before .before .before .before .before .before .before .before .before .before .before .before .before .before .before .before .before .before .before .before .before .before .before .before .before .before .admit .result .code ≡ 0 = omega (arith, c .before .before .before .before .before .before .before .before .before .before .before .before .before .before .before .before .before .before .before .before .before .before .before .before .before .before .before .if1 .left) in
     ran (a .file .now) (a .turns .now) (lent (a .memory .now) (a .log .now) (a .report .now) (a .work .now)) 0 _
     (acceptance (a .file .now) (a .turns .now) (lent (a .memory .now) (a .log .now) (a .report .now) (a .work .now)) _ (none-refused (a .file .now) (a .turns .now) (lent (a .memory .now) (a .log .now) (a .report .now) (a .work .now)) _ h z)
     (left-same (a .file .now) (a .turns .now) (a .memory .now) (ok (a .file .now) (a .turns .now) (lent (a .memory .now) (a .log .now) (a .report .now) (a .work .now)) _ h z) (c .before .before .before .before .before .before .before .before .before .before .before .before .before .before .before .before .before .before .before .play .result) _

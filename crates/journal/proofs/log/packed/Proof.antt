@@ -35,7 +35,7 @@ add-result-2 : tie.Need-add-result-2
 add-result-2 c = search needs
 
 returns : tie.Need-returns
-returns c = packs (c .args .round) (c .args .worker) (c .args .op) (c .args .number) (c .args .outcome) (omega arith) (omega arith) (omega arith) (omega arith) (omega arith)
+returns c = packs _ (c .args .round) (c .args .worker) (c .args .op) (c .args .number) (c .args .outcome) (omega arith) (omega arith) (omega arith) (omega arith) (omega arith) (omega arith)
 
 pub packed-spec : {M : Type 1} → statement M
 packed-spec =

@@ -29,7 +29,7 @@ add-result-2 : tie.Need-add-result-2
 add-result-2 c = search needs
 
 returns : tie.Need-returns
-returns c = packs-tallies (c .args .end) (c .args .workers) (c .args .moves) (c .args .rounds) (c .args .records) (omega arith) (omega arith) (omega arith) (omega arith)
+returns c = packs-tallies _ (c .args .end) (c .args .workers) (c .args .moves) (c .args .rounds) (c .args .records) (omega arith) (omega arith) (omega arith) (omega arith) (omega arith)
 
 pub packed-tallies-spec : {M : Type 1} → statement M
 packed-tallies-spec =

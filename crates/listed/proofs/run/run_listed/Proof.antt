@@ -1,7 +1,9 @@
 use borrow.Author.Needs.{needs}
 use native.Mathlib.Omega.{arith}
-use mathlib.Core.Path.{refl, sym}
+use mathlib.Core.Path.{refl, sym, ap, _∙_}
 use lib.Seq.{length-take-le}
+use Rattle.protocol.specs.Refusals.{Verdict}
+use Rattle.listed.specs.Listed.{turnsBy}
 use Rattle.listed.proofs.Ended.{few-taken, listed}
 use Rattle.listed.proofs.run.run_listed.Statement.{statement}
 use Rattle.listed.proofs.run.run_listed.Tie as tie
@@ -48,7 +50,7 @@ returns c =
       report = lent .1 .1;
       work = refl;
       few = few-taken _ _ (turns .1 .0);
-      full = turns .1 .1;
+      full = λ q. turns .1 .1 ∙ ap (λ (v : Verdict). turnsBy v (wrote .before .before .before .before .before .before .args .file .now)) q;
     })
 
 pub run-listed-spec : {M : Type 1} → statement M

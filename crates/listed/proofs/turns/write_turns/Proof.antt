@@ -1,8 +1,9 @@
 use borrow.Author.Needs.{needs}
 use native.Mathlib.Omega.{arith}
 use mathlib.Core.Path.{ap, _∙_, sym}
+use Rattle.protocol.specs.Refusals.{Verdict}
 use Rattle.plan.specs.Answer.{verdictOf}
-use Rattle.plan.proofs.Readings.{not-refused}
+use Rattle.listed.specs.Listed.{turnsBy}
 use Rattle.listed.proofs.Turning.{Sized, sized, all-listed}
 use Rattle.listed.proofs.turns.write_turns.Statement.{statement}
 use Rattle.listed.proofs.turns.write_turns.Tie as tie
@@ -19,7 +20,8 @@ enum-told-2 c = search needs
 returns : tie.Need-returns
 returns c =
     let told = ap verdictOf (sym (c .enum-told2 .given .1)) in
-    (search needs, (search needs, λ q. not-refused _ _ (told ∙ (c .before .before .check .ensures .verdict ∙ q))))
+    let file = c .before .before .before .before .before .args .file .now in
+    (search needs, (search needs, ap (λ (v : Verdict). turnsBy v file) (told ∙ c .before .before .check .ensures .verdict)))
 
 cast-n : tie.Need-cast-n
 cast-n c = search needs
@@ -58,7 +60,7 @@ returns-2 c =
     let count = c .before .before .before .before .turn-count .ensures in
     let filled = c .before .before .fill .ensures in
     let start = c .before .before .before .before .before .before .before .before .before .before .before .before in
-    (search needs, (count .1, λ q. all-listed _ _ _ _ (layout (c .before .before .before .before .before .before)) (count .0) (omega (arith, count .1, filled .0, start .pre)) (filled .1)))
+    (search needs, (count .1, all-listed _ _ _ _ (layout (c .before .before .before .before .before .before)) (count .0) (omega (arith, count .1, filled .0, start .pre)) (filled .1)))
 
 pub write-turns-spec : {M : Type 1} → statement M
 write-turns-spec =

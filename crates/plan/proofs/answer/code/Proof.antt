@@ -1,6 +1,6 @@
 use borrow.Author.Needs.{needs}
 use Prim.Native.Nat.{_≤_}
-use mathlib.Core.Path.{ap, sym}
+use mathlib.Core.Path.{ap}
 use native.Mathlib.Omega.{arith}
 use Rattle.protocol.specs.Refusals.{codeOf}
 use Rattle.protocol.proofs.Numbered.{numbered}
@@ -34,7 +34,7 @@ returns : tie.Need-returns
 returns c = search needs
 
 returns-2 : tie.Need-returns-2
-returns-2 c = rw (c .number .ensures) (sym (ap (λ (v : Verdict). codeOf (verdictOf v)) (c .before .before .v .given .1)))
+returns-2 c = omega (arith, c .number .ensures, ap (λ (v : Verdict). codeOf (verdictOf v)) (c .before .before .v .given .1))
 
 pub code-spec : {M : Type 1} → statement M
 code-spec =

@@ -2,7 +2,7 @@
 use borrow.Author.Needs.{needs}
 use native.Mathlib.Omega.{arith}
 use mathlib.Core.Path.{refl}
-use Rattle.rules.proofs.Rulings.{calm}
+use Rattle.rules.proofs.Rulings.{calm, locks}
 use Rattle.rules.proofs.ruling.lock.Statement.{statement}
 use Rattle.rules.proofs.ruling.lock.Tie as tie
 
@@ -22,7 +22,11 @@ cast-t7 : tie.Need-cast-t7
 cast-t7 c = search needs
 
 returns : tie.Need-returns
-returns c = λ number waiting on. record { same = rw (c .commits-at-zero .ensures); sound = calm refl refl refl (omega arith) (c .before .empty .ensures) }
+returns c = λ number waiting on.
+    record {
+      same = locks (c .before .before .args .held) _ _ (c .commits-at-zero .ensures) (omega arith) (omega arith) (omega arith);
+      sound = calm refl refl refl (omega arith) (c .before .empty .ensures);
+    }
 
 pub lock-spec : {M : Type 1} → statement M
 lock-spec = tie.close (tie.spec empty-requires commits-at-zero-requires add-t4 add-t6 cast-t7 returns)

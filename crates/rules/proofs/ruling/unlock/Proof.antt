@@ -1,9 +1,9 @@
 -- `unlock` meets its contract. Assumes nothing.
 use borrow.Author.Needs.{needs}
 use native.Mathlib.Omega.{arith}
-use borrow.Author.Tests.{eq-eqb, ne-eqb}
+use borrow.Author.Tests.{eq-eqb}
 use mathlib.Core.Path.{refl}
-use Rattle.rules.proofs.Rulings.{calm}
+use Rattle.rules.proofs.Rulings.{calm, unlocks}
 use Rattle.rules.proofs.ruling.unlock.Statement.{statement}
 use Rattle.rules.proofs.ruling.unlock.Tie as tie
 
@@ -32,7 +32,9 @@ returns-2 : tie.Need-returns-2
 returns-2 c = λ number waiting on.
     let s = c .before .before .before in
     record {
-      same = rw (ne-eqb (s .before .args .held) 0 (s .if1 .left), c .before .commits-at-zero .ensures, c .gives-at-zero .ensures .same);
+      same =
+          unlocks (s .before .args .held) _ _ (s .if1 .left) (c .before .commits-at-zero .ensures) (c .gives-at-zero .ensures)
+          (omega arith) (omega arith) (omega arith) (omega arith);
       sound = calm refl refl (c .gives-at-zero .ensures .coded) (omega arith) (c .before .before .empty .ensures);
     }
 

@@ -22,7 +22,7 @@ same-length c = search needs
 returns : tie.Need-returns
 returns c =
     let wrote = c .before .before in
-    (wrote-as (wrote .write-bytes .ensures) (ap (λ (b : Bool). endWord (cond b finished stuck) ++ (space ∷ [])) (sym (eq-eqb _ 1 (wrote .before .before .before .if1 .taken)))), omega (arith, wrote .write-bytes .ensures .ends))
+    (wrote-as (wrote .write-bytes .ensures) (ap (λ (b : Bool). endWord (cond b finished stuck) ++ (space ∷ [])) (sym (eq-eqb (wrote .before .before .before .before .before .args .end) 1 (omega (arith, wrote .before .before .before .if1 .taken))))), omega (arith, wrote .write-bytes .ensures .ends))
 
 slice-aggregate-write-bytes-2 : tie.Need-slice-aggregate-write-bytes-2
 slice-aggregate-write-bytes-2 c = search needs
@@ -36,7 +36,7 @@ same-length-2 c = search needs
 returns-2 : tie.Need-returns-2
 returns-2 c =
     let wrote = c .before .before in
-    (wrote-as (wrote .write-bytes2 .ensures) (ap (λ (b : Bool). endWord (cond b finished stuck) ++ (space ∷ [])) (sym (ne-eqb _ 1 (wrote .before .before .before .if1 .left)))), omega (arith, wrote .write-bytes2 .ensures .ends))
+    (wrote-as (wrote .write-bytes2 .ensures) (ap (λ (b : Bool). endWord (cond b finished stuck) ++ (space ∷ [])) (sym (ne-eqb (wrote .before .before .before .before .before .args .end) 1 (λ e. omega (arith, e, wrote .before .before .before .if1 .left))))), omega (arith, wrote .write-bytes2 .ensures .ends))
 
 pub write-end-word-spec : {M : Type 1} → statement M
 write-end-word-spec =

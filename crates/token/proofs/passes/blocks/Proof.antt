@@ -3,7 +3,7 @@ use borrow.Author.Needs.{needs}
 use borrow.Author.Tests.{not-false}
 use native.Mathlib.Omega.{arith}
 use Prim.Native.Nat.{_-_}
-use mathlib.Core.Path.{refl}
+use mathlib.Core.Path.{refl, sym, _∙_}
 use lib.ListN.{length}
 use Rattle.token.specs.Passes.{Passed}
 use Rattle.token.proofs.Passing.{ahead-on, passed-none, passed-block, passed-join}
@@ -40,7 +40,7 @@ loop-less c = search needs
 loop-again : tie.Need-loop-again Inv-loop μ-loop
 loop-again c =
     let l = c .before .before .before in
-    let none = c .before .idle .ensures (not-false _ (c .if1 .left)) in
+    let none = sym (c .before .idle .ensures) ∙ not-false _ (c .if1 .left) in
     passed-join (l .before .loop .inv) (passed-block (omega arith) (l .loop-test .taken) (c .before .before .span .ensures) none)
 
 returns-2 : tie.Need-returns-2 Inv-loop μ-loop

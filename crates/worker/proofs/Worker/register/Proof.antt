@@ -1,5 +1,6 @@
 -- `Worker::register` meets its contract: the digit there. Assumes nothing.
 use borrow.Author.Needs.{needs}
+use native.Mathlib.Omega.{arith}
 use Rattle.worker.proofs.Registers.{digit-at}
 use Rattle.worker.proofs.Worker.register.Statement.{statement}
 use Rattle.worker.proofs.Worker.register.Tie as tie
@@ -14,7 +15,7 @@ cast-result : tie.Need-cast-result
 cast-result c = search needs
 
 returns : tie.Need-returns
-returns c = digit-at (c .before .args .self .registers) (c .before .args .r) (c .before .pre)
+returns c = omega (arith, digit-at (c .before .args .self .registers) (c .before .args .r) (c .before .pre))
 
 pub register-spec : {M : Type 1} → statement M
 register-spec = tie.close (tie.spec mul-shift shr-result cast-result returns)

@@ -32,7 +32,7 @@ wrapping-sub-u16-requires c κs = search needs
 returns-3 : tie.Need-returns-3
 returns-3 c =
     let a = c .before .before .before .before .before .args in
-    added (registersOf (a .self)) (a .op) (a .value) (a .number) (a .loaded) (c .before .before .register .ensures) (c .before .if3 .taken)
+    added (registersOf (a .self)) (a .op) (a .value) (a .number) (a .loaded) (c .before .before .register .ensures) (omega arith)
     (c .wrapping-add-u16 .ensures)
 
 returns-4 : tie.Need-returns-4
