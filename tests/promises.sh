@@ -1,6 +1,6 @@
 #!/usr/bin/env bash
 # Holds the tables of docs/PROMISES.md against the repository, both ways: each name in backquotes is the name of something, of a kind that
-# its column may name, and each must-fail edit is cited in a column of edits or as what meets a sentence.
+# its column may name, and each must-fail edit is cited. An edit has its control beside it, or a row that says what it shows without one.
 #
 # tests/promises.sh [FILE]   FILE stands for docs/PROMISES.md
 set -u -o pipefail
@@ -76,7 +76,7 @@ names_cited() {
 # The kinds of names that a column may have.
 kinds_of() { # HEADING
     case $1 in
-    -must-fail-) echo edit ;;
+    -must-fail- | -edit-without-a-control-) echo edit ;;
     -definition-) echo definition ;;
     -test-) echo test ;;
     *) echo edit definition proof code crate test ;;
@@ -94,6 +94,10 @@ exists() { # HEADING NAME
     esac
 }
 
+beside() { # EDIT
+    echo "crates/${1%%/*}/must-fail/${1#*/}"
+}
+
 complaints=0
 complain() {
     echo "promises: $*" >&2
@@ -106,10 +110,16 @@ while read -r line column name; do
     exists "$column" "$name" || complain "$promises:$line: \`$name\` names nothing that the column$column may name"
 done <"$work/cited"
 while read -r _ edit; do
-    grep -q -- " $edit\$" "$work/cited" || complain "no row cites the edit $edit"
+    grep -qE -- "^[0-9]+ -(must-fail|what-meets-it)- $edit\$" "$work/cited" || complain "no row cites the edit $edit"
+    [ -f "$(beside "$edit").control" ] || grep -q -- " -edit-without-a-control- $edit\$" "$work/cited" ||
+        complain "the edit $edit has no control, and no row says what it shows"
 done < <(grep '^edit ' "$work/there")
+for control in crates/*/must-fail/*.control; do
+    [ -f "${control%.control}.edit" ] || complain "$control has no edit of its name"
+done
 
 names=$(wc -l <"$work/cited") edits=$(grep -c '^edit ' "$work/there")
 [ "$names" -gt 0 ] && [ "$edits" -gt 0 ] || complain "there are $names names and $edits edits"
 [ "$complaints" -eq 0 ] || exit 1
-echo "promises: $names names stand for something, and $edits must-fail edits are cited"
+controls=(crates/*/must-fail/*.control)
+echo "promises: $names names stand for something; $edits must-fail edits are cited, and ${#controls[@]} have a control"
