@@ -5,7 +5,7 @@
 #     tests/controls.sh [CRATE...]        tries the controls of these crates, or of all, in a copy of the repository
 set -u
 cd "$(dirname "$0")/.." || exit 2
-[ $# -gt 0 ] || set -- $(sed -n 's/^\([a-z_]*\):.*/\1/p' crates.txt)
+[ $# -gt 0 ] || set -- $(sed -n 's/^\([a-z0-9_]*\):.*/\1/p' crates.txt)
 copy=$(mktemp -d) || exit 2
 trap 'rm -rf "$copy"' EXIT
 # target/ has what is proved already, so that only the crate itself is checked anew
