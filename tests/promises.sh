@@ -76,7 +76,7 @@ names_cited() {
 # The kinds of names that a column may have.
 kinds_of() { # HEADING
     case $1 in
-    -must-fail- | -edit-without-a-control-) echo edit ;;
+    -must-fail- | -edit-with-a-weak-control-or-none-) echo edit ;;
     -definition-) echo definition ;;
     -test-) echo test ;;
     *) echo edit definition proof code crate test ;;
@@ -111,7 +111,7 @@ while read -r line column name; do
 done <"$work/cited"
 while read -r _ edit; do
     grep -qE -- "^[0-9]+ -(must-fail|what-meets-it)- $edit\$" "$work/cited" || complain "no row cites the edit $edit"
-    [ -f "$(beside "$edit").control" ] || grep -q -- " -edit-without-a-control- $edit\$" "$work/cited" ||
+    [ -f "$(beside "$edit").control" ] || grep -q -- " -edit-with-a-weak-control-or-none- $edit\$" "$work/cited" ||
         complain "the edit $edit has no control, and no row says what it shows"
 done < <(grep '^edit ' "$work/there")
 for control in crates/*/must-fail/*.control; do

@@ -4,7 +4,7 @@ use native.Mathlib.Omega.{arith}
 use native.Mathlib.Decide.{ℕ-discrete}
 use native.Mathlib.Nat.{add-zero}
 use mathlib.Core.Bool.{Bool, true, false}
-use mathlib.Core.Path.{_≡_, sym, ap, _∙_, subst}
+use mathlib.Core.Path.{_≡_, sym, ap, _∙_, subst, subst⁻¹}
 use mathlib.Core.List.{List}
 use lib.ListN.{length, getD, set, length-set}
 use Rattle.protocol.specs.Format.{planOf}
@@ -88,9 +88,9 @@ module _ {file firsts turns : List ℕ} {from made : ℕ} {mark : List Bool} {pl
 
     module _ {r : Record} (fetched : r ≡ fetchedAs file (getD firsts w 0) (getD firsts (w + 1) 0) (getD places′ w 0)) (early : r .op < 32)
         {v : Worker} {copied″ : List Bool} {work″ : List ℕ} (m : OwnMoved (workerIn places′ held registers′ w) r w memory copied′ work′ copied″ work″ v) where
-      pub moves-on : SoFar file firsts turns from made mark places held registers copied memory work (i + 1) (moves + 1) (set places′ w (v .place)) (set registers′ w (v .registers)) copied″ work″
+      one-more : SoFar file firsts turns from made mark places held registers copied memory work (i + 1) (moves + 1) (set places′ w (v .place)) (set registers′ w (v .registers)) copied″ work″
       unfolding here stepping
-      moves-on =
+      one-more =
           record {
             forward = let k = so .forward in omega arith;
             within = omega arith;
@@ -109,3 +109,11 @@ module _ {file firsts turns : List ℕ} {from made : ℕ} {mark : List Bool} {pl
                 (sym (gathered-own places′ held registers′ w (turn-small (h .playing) i l) (k .places) (k .held) (k .registers) (v .place) (v .registers) (m .held)))
                 (moved (h .playing) i l (so .shows h) e (own-left (here h) fetched early m));
           }
+
+      -- however the code counts the move
+      pub moves-on : (count : ℕ) → count ≡ moves + 1
+          → SoFar file firsts turns from made mark places held registers copied memory work (i + 1) count (set places′ w (v .place)) (set registers′ w (v .registers)) copied″ work″
+      moves-on count q =
+          subst⁻¹
+          (λ (k : ℕ). SoFar file firsts turns from made mark places held registers copied memory work (i + 1) k (set places′ w (v .place)) (set registers′ w (v .registers)) copied″ work″)
+          q one-more

@@ -1,5 +1,5 @@
 -- `clear`: after i turns the first i bytes are 0.
-use Prim.Native.Nat.{ℕ, _-_, _≤_}
+use Prim.Native.Nat.{ℕ, _+_, _-_, _<_, _≤_}
 use native.Mathlib.Omega.{arith}
 use mathlib.Core.Path.{_≡_, ap, _∙_}
 use mathlib.Core.List.{List, _++_, append-nil}
@@ -14,6 +14,10 @@ Inv-loop bytes₀ i₀ bytes i = (i ≤ length bytes₀) × (length bytes ≡ le
 
 abbrev μ-loop : tie.MeasureT-loop
 μ-loop bytes₀ i₀ bytes i = length bytes₀ - i
+
+-- one byte more, wherever the code works out that it stands
+more-filled : (d l : List ℕ) (i at : ℕ) → l ≡ replicate i 0 ++ drop i d → at ≡ i → i < length d → set l at 0 ≡ replicate (i + 1) 0 ++ drop (i + 1) d
+more-filled d l i at e place h = ap (λ (k : ℕ). set l k 0) place ∙ (ap (λ (b : List ℕ). set b i 0) e ∙ fill-more i 0 d h)
 
 -- the fill reached the end
 all-filled : (d l : List ℕ) (i : ℕ) → i ≡ length d → l ≡ replicate i 0 ++ drop i d → l ≡ replicate (length d) 0
@@ -38,11 +42,10 @@ loop-less c = search needs
 
 loop-again : tie.Need-loop-again Inv-loop μ-loop
 loop-again c =
-    let l = c .before in
-    let i = l .loop .i in (
+    let l = c .before in (
       search needs,
       search needs,
-      ap (λ (b : List ℕ). set b i 0) (l .loop .inv .2) ∙ fill-more i 0 (l .before .args .bytes .now) (omega arith),
+      more-filled (l .before .args .bytes .now) (l .loop .bytes) (l .loop .i) _ (l .loop .inv .2) (omega arith) (omega arith),
     )
 
 same-length : tie.Need-same-length Inv-loop μ-loop

@@ -43,11 +43,12 @@ add-p c = search needs
 loop-less : tie.Need-loop-less Inv-loop μ-loop
 loop-less c = search needs
 
-off : (c : tie.In-loop Inv-loop μ-loop) (q : ℕ) → q < c .before .loop .p + 1
-    → getD (set (c .before .loop .copied) (slotOf (c .before .before .args .w) (c .before .loop .p)) false) (slotOf (c .before .before .args .w) q) false ≡ false
-off c q h = elim (ℕ-discrete q p) [
-  | yes e ↦ subst (λ (r : ℕ). getD (set l (slotOf w p) false) (slotOf w r) false ≡ false) (sym e) (getD-set-default l (slotOf w p) false)
-  | no ne ↦ getD-set-other l (slotOf w p) (slotOf w q) false false (λ e. ne (omega arith)) ∙ c .before .loop .inv .2 q (omega arith)
+-- wherever the code works out that the page's mark stands
+off : (c : tie.In-loop Inv-loop μ-loop) (at : ℕ) → at ≡ slotOf (c .before .before .args .w) (c .before .loop .p) → (q : ℕ) → q < c .before .loop .p + 1
+    → getD (set (c .before .loop .copied) at false) (slotOf (c .before .before .args .w) q) false ≡ false
+off c at place q h = elim (ℕ-discrete q p) [
+  | yes e ↦ subst (λ (r : ℕ). getD (set l at false) r false ≡ false) (let k : at ≡ slotOf w q = omega arith in k) (getD-set-default l at false)
+  | no ne ↦ getD-set-other l at (slotOf w q) false false (λ e. ne (omega arith)) ∙ c .before .loop .inv .2 q (omega arith)
 ]
   where
     l : List Bool
@@ -62,12 +63,11 @@ off c q h = elim (ℕ-discrete q p) [
 loop-again : tie.Need-loop-again Inv-loop μ-loop
 loop-again c =
     let l = c .before in
-    let w = l .before .args .w in
     let p = l .loop .p in (
       omega arith,
       search needs,
-      off c,
-      λ s h. getD-set-other (l .loop .copied) (slotOf w p) s false false (h p (c .loop-test .taken)) ∙ l .loop .inv .3 s h,
+      off c _ (omega arith),
+      λ s h. getD-set-other (l .loop .copied) _ s false false (λ e. h p (c .loop-test .taken) (omega (arith, e))) ∙ l .loop .inv .3 s h,
     )
 
 returns : tie.Need-returns Inv-loop μ-loop

@@ -1,7 +1,9 @@
 -- `signal` meets its contract. Assumes nothing.
 use borrow.Author.Needs.{needs}
 use native.Mathlib.Omega.{arith}
-use mathlib.Core.Path.{_≡_, refl, sym, _∙_}
+use Prim.Native.Nat.{ℕ}
+use mathlib.Core.Path.{_≡_, refl, sym, ap, _∙_}
+use mathlib.Core.List.{List}
 use denote.Ref.{now}
 use Rattle.queue.specs.List.{listOf}
 use Rattle.queue.proofs.Laws.{some-in, below-first}
@@ -27,9 +29,13 @@ select-requires c κs = search needs
 is-empty-requires : tie.Need-is-empty-requires
 is-empty-requires c κs = search needs
 
+-- however the code works out whom to ask for
+found-by : (on ws : List ℕ) {qs : List ℕ} (key asked : ℕ) → qs ≡ found on ws key → key ≡ asked → qs ≡ found on ws asked
+found-by on ws key asked e k = e ∙ ap (λ (n : ℕ). found on ws n) k
+
 -- the queued are those who wait on the condition
 asked : (c : tie.After-select) → listOf (c .select .result) ≡ found (now (c .before .before .args .on)) (listOf (c .before .before .args .waiting)) (conditionCode (c .before .before .args .condition))
-asked c = c .select .ensures .list
+asked c = found-by (now (c .before .before .args .on)) (listOf (c .before .before .args .waiting)) _ (conditionCode (c .before .before .args .condition)) (c .select .ensures .list) (omega arith)
 
 returns : tie.Need-returns
 returns c =
