@@ -27,6 +27,9 @@ RT_PROGRAMS = listing vectors
 
 PROVED = $(shell find crates -name '*.rt' -o -name '*.antt') crates.txt
 
+# No recipe calls make; cargo would look for make's job server, and warn that it is not handed one.
+unexport MAKEFLAGS MFLAGS
+
 # The tests of the gate. What each must print there is in .ci/said.
 TESTS = test-promises test-c test-listings test-simulator test-differential test-twin test-hold test-hosts test-fuzz test-vectors
 

@@ -1,6 +1,6 @@
 #!/usr/bin/env bash
-# Holds the tables of docs/PROMISES.md against the repository, both ways: each name in backquotes is the name of something, of a kind that
-# its column may name, and each must-fail edit is cited. An edit has its control beside it, or a row that says what it shows without one.
+# Holds docs/PROMISES.md against the repository, both ways: each name in backquotes is the name of something, in a table of a kind that its
+# column may name, and each must-fail edit is cited in a table. An edit has its control beside it, or a row that says what it shows without one.
 #
 # tests/promises.sh [FILE]   FILE stands for docs/PROMISES.md
 set -u -o pipefail
@@ -10,8 +10,9 @@ work=$(mktemp -d) || exit 1
 trap 'rm -rf "$work"' EXIT
 shopt -s nullglob
 
-# Words of contracts and of listings, which name nothing of ours.
-words=' requires ensures stuck '
+# Words of contracts and of listings, and what the page explains its columns with; they name nothing of ours.
+words=' requires ensures stuck File.name name proofs/File.name crate::name crate/label label.control '
+words+='crates/protocol/specs/File.antt crates/protocol/proofs/File.antt crates/crate/src crates/crate/must-fail/label.edit '
 
 # What antt files declare: `FILE`, `FILE.name`, `TYPE.field`, and the names alone. Fields, constructors and what stands in a
 # module without a name are indented.
@@ -58,19 +59,21 @@ names_there() {
     sed -n 's/^static [a-z_0-9 ]*[ *]\([a-z_0-9]*\)(.*/test \1/p' tests/*.c
 }
 
-# The names in the tables: their line, their column's heading, and the name. A text with a blank in it is a phrase and no name.
+# The names on the page: their line, their column's heading or `text`, and the name. What has a blank in it is a phrase and no name.
 names_cited() {
     awk -F '[|]' '
         /^\|/ && before !~ /^\|/ { for (i = 2; i < NF; i++) heading[i] = $i }
         { before = $0 }
-        /^\|/ { for (i = 2; i < NF; i++) {
-            column = heading[i]; gsub(/ /, "-", column)
-            while (match($i, /`[^`]*`/)) {
-                name = substr($i, RSTART + 1, RLENGTH - 2)
-                $i = substr($i, RSTART + RLENGTH)
+        function cite(column, text, name) {
+            gsub(/ /, "-", column)
+            while (match(text, /`[^`]*`/)) {
+                name = substr(text, RSTART + 1, RLENGTH - 2)
+                text = substr(text, RSTART + RLENGTH)
                 if (name !~ / /) print NR, column, name
             }
-        } }' "$promises"
+        }
+        /^\|/ { for (i = 2; i < NF; i++) cite(heading[i], $i); next }
+        { cite("text", $0) }' "$promises"
 }
 
 # The kinds of names that a column may have.
@@ -86,11 +89,12 @@ kinds_of() { # HEADING
 exists() { # HEADING NAME
     local kind files
     for kind in $(kinds_of "$1"); do grep -qxF -- "$kind $2" "$work/there" && return; done
+    [[ $words == *" $2 "* ]] && return
     case $2 in
     proofs/*) grep -qxF -- "proof $2" "$work/there" ;; # in any column, with its file
     */*) files=($2) && [ ${#files[@]} -gt 0 ] && [ -e "${files[0]}" ] ;; # a path, which may have a * in it
     std::*) grep -qF -- "$2" crates/*/src/*.rt ;;
-    *) [[ $words == *" $2 "* ]] ;;
+    *) false ;;
     esac
 }
 
@@ -107,7 +111,7 @@ complain() {
 names_there | sort -u >"$work/there"
 names_cited >"$work/cited"
 while read -r line column name; do
-    exists "$column" "$name" || complain "$promises:$line: \`$name\` names nothing that the column$column may name"
+    exists "$column" "$name" || complain "$promises:$line: \`$name\` names nothing that may stand there ($column)"
 done <"$work/cited"
 while read -r _ edit; do
     grep -qE -- "^[0-9]+ -(must-fail|what-meets-it)- $edit\$" "$work/cited" || complain "no row cites the edit $edit"

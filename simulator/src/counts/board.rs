@@ -1,6 +1,7 @@
 //! Limits that are alike stand in one row, counted one by one.
 
 /// A row: a name for all its limits, how many they are, and the name of each.
+#[derive(Clone, Copy)]
 pub struct Row {
     pub name: &'static str,
     pub members: usize,

@@ -41,52 +41,138 @@ pub enum Limit {
 /// A row and the place in it of a limit that was met.
 pub type Met = (Limit, u16);
 
-const fn row(name: &'static str, members: usize, named: fn(usize) -> String) -> Row {
-    Row {
+const fn row(
+    limit: Limit,
+    name: &'static str,
+    members: usize,
+    named: fn(usize) -> String,
+) -> (Limit, Row) {
+    let row = Row {
         name,
         members,
         named,
-    }
+    };
+    (limit, row)
 }
 
-/// The rows, in the order of `Limit`.
-pub const ROWS: [Row; 29] = [
-    row("step by op and worker, eight workers", 112, op_and_worker),
-    row("128th step", 8, worker),
-    row("end without a step", 8, worker),
-    row("word over a page border", 56, border),
-    row("first or last byte of a page", 32, edge),
-    row("store by page and worker", 64, page_and_worker),
-    row("eight pages of eight workers copied at once", 1, itself),
-    row("store of a register never set", 32, register_and_worker),
-    row("sum or difference by registers", 32, registers),
-    row("65,535 + 1 or 0 - 1", 2, exact_wrap),
-    row("skip by op, distance and whether taken", 506, skip),
-    row("skip just behind the last step, taken", 2, skip_op),
-    row("lock, count behind it", 128, from_one),
-    row("unlock, count behind it", 127, from_zero),
-    row("barrier failed, count", 127, from_one),
-    row("exit failed, count", 127, from_one),
-    row("end of steps failed, count", 128, from_one),
-    row("wait, count kept", 127, from_one),
-    row("woken, count kept", 127, from_one),
-    row("woken into a list, workers in it before", 7, from_one),
-    row("65,535th turn moved", 4, last_turn),
-    row("65,534th turn moved, the last one", 1, itself),
-    row("number set", SET.len(), |place| SET[place].to_string()),
-    row("own step by op and register", 28, op_and_register),
-    row("signal or broadcast, count", 254, signal_and_count),
-    row("load or store at address", 4_094, address),
-    row("moving turn of number", TURNS.len(), |place| {
-        TURNS[place].to_string()
+const COUNT: usize = 29;
+
+/// Each row with its limit, in the order of `Limit`.
+const TABLE: [(Limit, Row); COUNT] = [
+    row(
+        Limit::OpsOfEight,
+        "step by op and worker, eight workers",
+        112,
+        op_and_worker,
+    ),
+    row(Limit::LastStep, "128th step", 8, worker),
+    row(Limit::NoStep, "end without a step", 8, worker),
+    row(Limit::Border, "word over a page border", 56, border),
+    row(Limit::Edge, "first or last byte of a page", 32, edge),
+    row(
+        Limit::PageStore,
+        "store by page and worker",
+        64,
+        page_and_worker,
+    ),
+    row(
+        Limit::AllCopied,
+        "eight pages of eight workers copied at once",
+        1,
+        itself,
+    ),
+    row(
+        Limit::UnknownRegister,
+        "store of a register never set",
+        32,
+        register_and_worker,
+    ),
+    row(Limit::Sum, "sum or difference by registers", 32, registers),
+    row(Limit::ExactWrap, "65,535 + 1 or 0 - 1", 2, exact_wrap),
+    row(
+        Limit::Skip,
+        "skip by op, distance and whether taken",
+        506,
+        skip,
+    ),
+    row(
+        Limit::SkipToEnd,
+        "skip just behind the last step, taken",
+        2,
+        skip_op,
+    ),
+    row(Limit::Lock, "lock, count behind it", 128, from_one),
+    row(Limit::Unlock, "unlock, count behind it", 127, from_zero),
+    row(Limit::FailedBarrier, "barrier failed, count", 127, from_one),
+    row(Limit::FailedExit, "exit failed, count", 127, from_one),
+    row(
+        Limit::FailedEnd,
+        "end of steps failed, count",
+        128,
+        from_one,
+    ),
+    row(Limit::Wait, "wait, count kept", 127, from_one),
+    row(Limit::Waking, "woken, count kept", 127, from_one),
+    row(
+        Limit::WokenInto,
+        "woken into a list, workers in it before",
+        7,
+        from_one,
+    ),
+    row(Limit::LastTurn, "65,535th turn moved", 4, last_turn),
+    row(
+        Limit::TurnBeforeLast,
+        "65,534th turn moved, the last one",
+        1,
+        itself,
+    ),
+    row(Limit::Set, "number set", SET.len(), |place| {
+        SET[place].to_string()
     }),
-    row("step of record", RECORDS.len(), |place| {
-        RECORDS[place].to_string()
-    }),
-    row("bytes written by a commit", COMMITTED.len(), |place| {
-        COMMITTED[place].to_string()
-    }),
+    row(
+        Limit::OpsByRegister,
+        "own step by op and register",
+        28,
+        op_and_register,
+    ),
+    row(
+        Limit::CountedSignal,
+        "signal or broadcast, count",
+        254,
+        signal_and_count,
+    ),
+    row(Limit::Address, "load or store at address", 4_094, address),
+    row(
+        Limit::TurnNumber,
+        "moving turn of number",
+        TURNS.len(),
+        |place| TURNS[place].to_string(),
+    ),
+    row(
+        Limit::RecordIndex,
+        "step of record",
+        RECORDS.len(),
+        |place| RECORDS[place].to_string(),
+    ),
+    row(
+        Limit::Committed,
+        "bytes written by a commit",
+        COMMITTED.len(),
+        |place| COMMITTED[place].to_string(),
+    ),
 ];
+
+/// The rows; that each stands at its limit's place is seen by the compiler.
+pub const ROWS: [Row; COUNT] = {
+    let mut rows = [TABLE[0].1; COUNT];
+    let mut place = 0;
+    while place < COUNT {
+        assert!(TABLE[place].0 as usize == place);
+        rows[place] = TABLE[place].1;
+        place += 1;
+    }
+    rows
+};
 
 /// Numbers at the limits of a byte, of a sign and of a register.
 pub const SET: [u16; 7] = [0, 255, 256, 32_767, 32_768, 65_534, 65_535];
