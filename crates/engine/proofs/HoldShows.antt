@@ -43,10 +43,10 @@ pub record StepDone (s : State) (w : ℕ) (y : Sync) (R : Ruling) (t : Tally) (o
   pub shared : memory′ ≡ memoryAfter (R .bytes) (copiesIn copied work w) memory
   pub mine : copiesIn copied′ work w ≡ copiesAfter (R .bytes) (copiesIn copied work w)
   pub others : (u : ℕ) → (u ≡ w → ⊥) → copiesIn copied′ work u ≡ copiesIn copied work u
-  pub memorySize : length memory′ ≡ 2048
+  pub memoryLength : length memory′ ≡ 2048
   pub markSize : length copied′ ≡ 64
   pub entry : take (8 * (t .records + 1)) log′ ≡ logBytes (s .log ++ (entryOf s w y (R .outcome) ∷ []))
-  pub logSize : length log′ ≡ 8256
+  pub logLength : length log′ ≡ 8256
   pub over : TurnedOver (lists′ .list) (lists′ .next) w (t .rounds) mark r mark′
 
 -- the holder's record after its step
@@ -142,7 +142,7 @@ module _ (plan : Plan) (small : workersOf plan ≤ 8) (s : State) (i : Inv plan 
   bytes : Bytes (workersOf plan) after (set workers w (heldWorker v R)) copied′ work memory′
   bytes =
       bytes-moved (workersOf plan) w s after workers (heldWorker v R) copied copied′ work work memory memory′ (omega (arith, known)) (shows .bytes) shared
-      (record { memorySize = done .memorySize; workSize = shows .bytes .sizes .workSize }) (done .markSize) mine others (done .others)
+      (record { memoryLength = done .memoryLength; workLength = shows .bytes .sizes .workLength }) (done .markSize) mine others (done .others)
 
   fates : (u : ℕ) → u < workersOf plan → getD on′ u 0 ≡ fateCode (workerAt after u .fate)
   fates u l = done .fates u ∙ go (ℕ-discrete u w)
@@ -197,7 +197,7 @@ module _ (plan : Plan) (small : workersOf plan ≤ 8) (s : State) (i : Inv plan 
 
   logged : Logged after (t .records + 1) log′
   unfolding apply
-  logged = record { count = length-append (s .log) _ ∙ ap (λ (k : ℕ). k + 1) (shows .logged .count); bytes = done .entry; size = done .logSize }
+  logged = record { count = length-append (s .log) _ ∙ ap (λ (k : ℕ). k + 1) (shows .logged .count); bytes = done .entry; size = done .logLength }
 
   moved : after .moves ≡ t .moves + 1
   unfolding apply

@@ -172,7 +172,7 @@ module _ (r : Record) (w count : ℕ) (t : Tally) (sizes on : List ℕ) (mark co
           shared = b .shared ∙ ap (λ (k : rounds.Ruling). memoryAfter (k .bytes) (copiesIn copied work w) memory) same;
           mine = b .mine ∙ ap (λ (k : rounds.Ruling). copiesAfter (k .bytes) (copiesIn copied work w)) same;
           others = b .others;
-          memorySize = b .size ∙ a .shows .bytes .sizes .memorySize;
+          memoryLength = b .size ∙ a .shows .bytes .sizes .memoryLength;
           markSize = b .markSize ∙ a .shows .bytes .marks;
           entry =
               ap (λ (bs : List ℕ). take (8 * (t .records + 1)) bs) l
@@ -180,7 +180,7 @@ module _ (r : Record) (w count : ℕ) (t : Tally) (sizes on : List ℕ) (mark co
               (let k = records-fit in let z = a .shows .logged .size in omega arith)
               (a .shows .logged .bytes)
               ∙ ap (λ (e : Entry). logBytes (a .state .log ++ (e ∷ []))) same-entry);
-          logSize = ap length l ∙ (length-sets log (8 * t .records) (entryBytes (entryAs (t .rounds + 1) w (r .op) (r .number) (d .ruling .outcome))) ∙ a .shows .logged .size);
+          logLength = ap length l ∙ (length-sets log (8 * t .records) (entryBytes (entryAs (t .rounds + 1) w (r .op) (r .number) (d .ruling .outcome))) ∙ a .shows .logged .size);
           over = turned;
         }
 

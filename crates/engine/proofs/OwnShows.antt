@@ -88,7 +88,7 @@ module _ (plan : Plan) (small : workersOf plan ≤ 8) (s : State) (i : Inv plan 
       record {
         bytes =
             bytes-moved (workersOf plan) w s after workers v′ copied copied′ work work′ memory memory (omega arith) (shows .bytes) (shows .bytes .shared)
-            (record { memorySize = shows .bytes .sizes .memorySize; workSize = done .size ∙ shows .bytes .sizes .workSize })
+            (record { memoryLength = shows .bytes .sizes .memoryLength; workLength = done .size ∙ shows .bytes .sizes .workLength })
             (done .markSize) (getD-set-same (s .workers) w x newWorker inside ∙ new) others (done .others);
         lined = record {
           list = shows .lined .list;

@@ -99,7 +99,7 @@ module _ {file : List ℕ} {n : ℕ} {sizes firsts turns memory₀ log₀ work�
         records = o .records;
         marks = o .marks;
         sizes = sizes;
-        logSize = room;
+        logLength = room;
       })
 
   abbrev inv-at : (i : ℕ) → Inv (planOf file) (after (planOf file) memory₀ turns i)

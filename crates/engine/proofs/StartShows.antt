@@ -45,7 +45,7 @@ pub record Starts (n : ℕ) (t : Tally) (mark : List Bool) (memory log work : Li
   pub records : t .records ≡ 0
   pub marks : mark ≡ raised (upTo n) (replicate 8 false)
   pub sizes : Sizes memory work
-  pub logSize : length log ≡ 8256
+  pub logLength : length log ≡ 8256
 
 module _ (plan : Plan) (small : workersOf plan ≤ 8) (t : Tally) (mark : List Bool) (memory log work : List ℕ)
     (starts : Starts (workersOf plan) t mark memory log work) where
@@ -102,7 +102,7 @@ module _ (plan : Plan) (small : workersOf plan ≤ 8) (t : Tally) (mark : List B
         logged = record {
           count = sym (starts .records);
           bytes = ap (λ (k : ℕ). take (8 * k) log) (starts .records);
-          size = starts .logSize;
+          size = starts .logLength;
         };
         moves = sym (starts .moves);
         rounds = sym (starts .rounds);

@@ -11,7 +11,7 @@ use Rattle.protocol.specs.Format.{upTo, countFrom, planOf}
 use Rattle.protocol.specs.Refusals.{Verdict, accepted, refused, codeOf, check}
 use Rattle.protocol.specs.Turns.{workersOf}
 use Rattle.protocol.specs.RoundRun.{moveLimit, roundRun}
-use Rattle.protocol.specs.Calls.{Buffers, Outcome, buffersOf, checkCode, memorySize, logSize, reportSize, workSize, turnLimit, misfit, namesNobody, run}
+use Rattle.protocol.specs.Calls.{Buffers, Outcome, buffersOf, checkCode, memoryLength, logLength, reportLength, workLength, turnsLimit, misfit, namesNobody, run}
 use Rattle.protocol.specs.Listing.{cycles, listedTurns}
 use Rattle.protocol.specs.Demands.{Whole, Cycles, done, cycle}
 use Rattle.protocol.proofs.Counting.{occurs-within}
@@ -54,25 +54,25 @@ by-file m t s v fits few named =
     go accepted known = ap (λ (b : Bool). verdictBy false false accepted b) (known refl)
     go (refused f i) known = refl
 
-pub few-taken : (k : ℕ) (turns : List ℕ) → k ≤ 16512 → length (take k turns) ≤ turnLimit
+pub few-taken : (k : ℕ) (turns : List ℕ) → k ≤ 16512 → length (take k turns) ≤ turnsLimit
 few-taken k turns h = let e = length-take k turns in omega arith
 
 -- what a listing lends and feeds
 pub record Feeds (file turns : List ℕ) (before : Buffers) : Type 0 where
-  pub zeros : before .memory ≡ replicate memorySize 0
-  pub log : length (before .log) ≡ logSize
-  pub report : length (before .report) ≡ reportSize
-  pub work : length (before .work) ≡ workSize
-  pub few : length turns ≤ turnLimit
+  pub zeros : before .memory ≡ replicate memoryLength 0
+  pub log : length (before .log) ≡ logLength
+  pub report : length (before .report) ≡ reportLength
+  pub work : length (before .work) ≡ workLength
+  pub few : length turns ≤ turnsLimit
   pub full : check file ≡ accepted → turns ≡ listedTurns (planOf file)
 
 returned-by-file : (file turns : List ℕ) (before : Buffers) → Feeds file turns before → run file turns before .returned ≡ checkCode file
 returned-by-file file turns before feeds =
     returned-code file turns before
-    ∙ ap codeOf (by-file (misfit before) (ltb turnLimit (length turns)) (namesNobody (workersOf (planOf file)) turns) (check file) fits (le-ltb turnLimit (length turns) (feeds .few)) named)
+    ∙ ap codeOf (by-file (misfit before) (ltb turnsLimit (length turns)) (namesNobody (workersOf (planOf file)) turns) (check file) fits (le-ltb turnsLimit (length turns) (feeds .few)) named)
   where
-    size : length (before .memory) ≡ memorySize
-    size = ap length (feeds .zeros) ∙ length-replicate {A = ℕ} memorySize 0
+    size : length (before .memory) ≡ memoryLength
+    size = ap length (feeds .zeros) ∙ length-replicate {A = ℕ} memoryLength 0
 
     fits : misfit before ≡ false
     fits = simp (eq-eqb _ _ size, eq-eqb _ _ (feeds .log), eq-eqb _ _ (feeds .report), eq-eqb _ _ (feeds .work))

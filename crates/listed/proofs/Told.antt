@@ -12,7 +12,7 @@ use Rattle.protocol.specs.Rounds.{State}
 use Rattle.protocol.specs.Turns.{workersOf}
 use Rattle.protocol.specs.RoundRun.{moveLimit}
 use Rattle.protocol.specs.Report.{End, underWay, finished, stuck, endOf, endNumber, reportBytes, logBytes}
-use Rattle.protocol.specs.Calls.{memorySize, logSize, lentLog}
+use Rattle.protocol.specs.Calls.{memoryLength, logLength, lentLog}
 use Rattle.protocol.specs.Listing.{listedTurns, listedState, logLines, refusalLine, linesOf, listing}
 use Rattle.protocol.specs.Demands.{Demand3}
 use Rattle.protocol.proofs.Accepted.{sound-file}
@@ -58,22 +58,22 @@ module _ (file : List ℕ) (ok : check file ≡ accepted) where
   abbrev s : State
   s = listedState plan
 
-  d : Demand3 plan (replicate memorySize 0) (listedTurns plan)
-  d = demand3-file file ok (replicate memorySize 0) (listedTurns plan)
+  d : Demand3 plan (replicate memoryLength 0) (listedTurns plan)
+  d = demand3-file file ok (replicate memoryLength 0) (listedTurns plan)
 
   -- the turns of a listing leave what the round-by-round run does
   run-played : listedRun file ≡ s
   run-played = sym (d .sameEnd (d .cyclesEnd (whole-cycles (workersOf plan) (moveLimit plan))))
 
   b : Bounded plan s
-  b = played-bounded plan (sound-file file ok) (replicate memorySize 0) (listedTurns plan)
+  b = played-bounded plan (sound-file file ok) (replicate memoryLength 0) (listedTurns plan)
 
   lines-back : (endNumber (endOf s) ≡ 0 → ⊥) → Told file (lentLog s) (reportBytes s)
   unfolding reportBytes lentLog listing
   lines-back h =
       let records = word-bytes (length (s .log)) (omega (arith, b .recordsFit)) in
       let moves = word-bytes (s .moves) (omega (arith, b .movesFit)) in
-      let log = entries-back (s .log) (replicate (logSize - length (logBytes (s .log))) 0) (played-rounds plan (sound-file file ok) (replicate memorySize 0) (listedTurns plan)) in
+      let log = entries-back (s .log) (replicate (logLength - length (logBytes (s .log))) 0) (played-rounds plan (sound-file file ok) (replicate memoryLength 0) (listedTurns plan)) in
       record {
         records = omega (arith, records, b .recordsFit);
         text = λ k e.

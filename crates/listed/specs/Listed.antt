@@ -8,7 +8,7 @@ use Rattle.protocol.specs.Refusals.{Verdict, accepted, refused}
 use Rattle.protocol.specs.Rounds.{State}
 use Rattle.protocol.specs.RoundRun.{roundRun}
 use Rattle.protocol.specs.Report.{reportBytes}
-use Rattle.protocol.specs.Calls.{memorySize, checkCode, lentLog}
+use Rattle.protocol.specs.Calls.{memoryLength, checkCode, lentLog}
 use Rattle.protocol.specs.Listing.{listedTurns}
 
 -- how many turns these are
@@ -22,7 +22,7 @@ turnsBy (refused f i) file = []
 
 -- the round-by-round run from zero memory
 abbrev pub listedRun : List ℕ → State
-listedRun file = roundRun (planOf file) (replicate memorySize 0)
+listedRun file = roundRun (planOf file) (replicate memoryLength 0)
 
 -- what is returned, and what an accepted plan leaves: memory, log and report of the round-by-round run, which has ended
 pub record Listed (file : List ℕ) (r : ℕ) (memory log report : List ℕ) : Type 0 where

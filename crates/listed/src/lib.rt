@@ -11,7 +11,7 @@ use text::lines::write_refusal;
 ghost use mathlib.Core.Path.{_≡_};
 ghost use Prim.Native.Nat.{_≤_};
 ghost use lib.ListN.{length, replicate};
-ghost use Rattle.protocol.specs.Calls.{checkCode, memorySize};
+ghost use Rattle.protocol.specs.Calls.{checkCode, memoryLength};
 ghost use Rattle.listed.specs.Listed.{listedRun};
 ghost use Rattle.listed.specs.Text.{textRoom, WroteListing};
 
@@ -27,7 +27,7 @@ pub struct Written {
 // Writes a line for each record of the log, then how the plan ended and the moving turns. A file that is refused gives one line.
 // Leaves an accepted plan's memory.
 pub fn write_listing(file: &[u8], memory: &mut [u8], text: &mut [u8]) -> Written
-    requires { ⌜ now memory ≡ replicate memorySize 0 ⌝ }
+    requires { ⌜ now memory ≡ replicate memoryLength 0 ⌝ }
     requires { ⌜ textRoom ≤ length (now text) ⌝ }
     ensures { λ r. ⌜ WroteListing (now (file .entry)) r (now (memory .exit)) (now (text .entry)) (now (text .exit)) ⌝ }
 {
@@ -46,7 +46,7 @@ pub fn write_listing(file: &[u8], memory: &mut [u8], text: &mut [u8]) -> Written
 
 // Prints a listing. Returns what tampermauve_check does, and leaves an accepted plan's memory.
 pub fn list(file: &[u8], memory: &mut [u8]) -> u32
-    requires { ⌜ now memory ≡ replicate memorySize 0 ⌝ }
+    requires { ⌜ now memory ≡ replicate memoryLength 0 ⌝ }
     ensures code { λ r. ⌜ r ≡ checkCode (now (file .entry)) ⌝ }
     ensures sameMemory { λ r. ⌜ (r ≡ 0 → now (memory .exit) ≡ listedRun (now (file .entry)) .memory) ⌝ }
 {

@@ -3,14 +3,14 @@ use crate::turns::write_turns;
 use tampermauve::tampermauve_run;
 ghost use mathlib.Core.Path.{_≡_};
 ghost use lib.ListN.{length, replicate};
-ghost use Rattle.protocol.specs.Calls.{memorySize, logSize, reportSize};
+ghost use Rattle.protocol.specs.Calls.{memoryLength, logLength, reportLength};
 ghost use Rattle.listed.specs.Listed.{Listed};
 
 // Runs a plan from zero memory. Returns what tampermauve_run does.
 pub fn run_listed(file: &[u8], memory: &mut [u8], log: &mut [u8], report: &mut [u8]) -> u32
-    requires { ⌜ now memory ≡ replicate memorySize 0 ⌝ }
-    requires { ⌜ length (now log) ≡ logSize ⌝ }
-    requires { ⌜ length (now report) ≡ reportSize ⌝ }
+    requires { ⌜ now memory ≡ replicate memoryLength 0 ⌝ }
+    requires { ⌜ length (now log) ≡ logLength ⌝ }
+    requires { ⌜ length (now report) ≡ reportLength ⌝ }
     ensures { λ r. ⌜ Listed (now (file .entry)) r (now (memory .exit)) (now (log .exit)) (now (report .exit)) ⌝ }
 {
     let mut turns = [0u8; 16512];

@@ -13,8 +13,8 @@ part at bytes = take pageSize (drop at bytes)
 
 -- the bytes that the caller lends
 pub record Sizes (memory work : List ℕ) : Type 0 where
-  pub memorySize : length memory ≡ 2048
-  pub workSize : length work ≡ 32768
+  pub memoryLength : length memory ≡ 2048
+  pub workLength : length work ≡ 32768
 
 -- A slot is a worker's place for one page. Its working copy comes first, then the twin.
 abbrev pub slotOf : ℕ → ℕ → ℕ

@@ -12,7 +12,7 @@ use borrow.Author.Tests.{ltb-true, ltb-false, leb-true, leb-false, eqb-true, eqb
 use Rattle.protocol.specs.Format.{Record, fileLimit, records, planOf, isSkip, stepsIn}
 use Rattle.protocol.specs.Refusals.{badLength, skipTooFar, badBuffer, tooManyTurns, badTurn, Verdict, accepted, holds, refuseIf, lengthRule, skipRule, checkSkips, checkRecords, check}
 use Rattle.protocol.specs.Turns.{workersOf}
-use Rattle.protocol.specs.Calls.{Buffers, memorySize, logSize, reportSize, workSize, turnLimit, misfit, namesNobody, both, runVerdict}
+use Rattle.protocol.specs.Calls.{Buffers, memoryLength, logLength, reportLength, workLength, turnsLimit, misfit, namesNobody, both, runVerdict}
 use Rattle.protocol.specs.WellFormed.{blank, Fitting}
 use Rattle.protocol.specs.Conditions.{LengthAmiss, SkipBeyond, Test, test, recordTests, skipTests, over, fileTests, runTests, FirstDue}
 use Rattle.protocol.proofs.Records.{one, or-false, or-left, or-right, and-left, and-right}
@@ -111,13 +111,13 @@ same-length k n e = eqb-true k n (not-false (eqb k n) e)
 
 -- the lengths of the four buffers
 abbrev pub AsLent : ℕ → ℕ → ℕ → ℕ → Type 0
-AsLent memory log report work = (memory ≡ memorySize) × (log ≡ logSize) × (report ≡ reportSize) × (work ≡ workSize)
+AsLent memory log report work = (memory ≡ memoryLength) × (log ≡ logLength) × (report ≡ reportLength) × (work ≡ workLength)
 
 pub as-lent : (memory log report work : ℕ)
-    → not (eqb memory memorySize) || not (eqb log logSize) || not (eqb report reportSize) || not (eqb work workSize) ≡ false
+    → not (eqb memory memoryLength) || not (eqb log logLength) || not (eqb report reportLength) || not (eqb work workLength) ≡ false
     → AsLent memory log report work
 as-lent memory log report work e =
-    let t = none-of (not (eqb memory memorySize)) (not (eqb log logSize)) (not (eqb report reportSize)) (not (eqb work workSize)) false (or-false _ ∙ e) in
+    let t = none-of (not (eqb memory memoryLength)) (not (eqb log logLength)) (not (eqb report reportLength)) (not (eqb work workLength)) false (or-false _ ∙ e) in
     (same-length _ _ (t .0), same-length _ _ (t .1), same-length _ _ (t .2), same-length _ _ (t .3))
 
 pub fitting : (b : Buffers) → misfit b ≡ false → Fitting b
@@ -150,7 +150,7 @@ pub run-first : (file turns : List ℕ) (b : Buffers) → FirstDue (runTests fil
 unfolding runVerdict
 run-first file turns b =
     covers (misfit b) badBuffer holds (misfitting b) (λ e amiss. amiss (fitting b e)) (λ e. covers-none 0) .decides _ _
-    (covers (ltb turnLimit (length turns)) tooManyTurns holds (ltb-true _ _) (λ e d. let h = ltb-false turnLimit (length turns) e in omega arith) (λ e. covers-none 0) .decides _ _
+    (covers (ltb turnsLimit (length turns)) tooManyTurns holds (ltb-true _ _) (λ e d. let h = ltb-false turnsLimit (length turns) e in omega arith) (λ e. covers-none 0) .decides _ _
     (both-first (fileTests file) _ (check file) _ (check-first file)
     (covers (namesNobody n turns) badTurn holds (stray-there n turns) (λ e d. let h = stray-none n turns e (d .0) (d .1) in let l = d .2 in omega arith) (λ e. covers-none 0) .decides [] accepted nothing-due)))
   where

@@ -14,7 +14,7 @@ use borrow.Author.Tests.{eqb-true, eq-eqb}
 use Rattle.protocol.specs.Format.{Record, Row, recordCount, records, planOf, rowIn, known, isBarrier, isStep, workersIn, stepsIn, stepOf}
 use Rattle.protocol.specs.Refusals.{Verdict, accepted, lengthRule, checkRecords, check}
 use Rattle.protocol.specs.Turns.{workersOf}
-use Rattle.protocol.specs.Calls.{Buffers, misfit, turnLimit, runVerdict}
+use Rattle.protocol.specs.Calls.{Buffers, misfit, turnsLimit, runVerdict}
 use Rattle.protocol.specs.WellFormed.{blank, recordAt, PlanRecord, BarrierRecord, StepRecord, FormedRecords, WellFormed, Runnable}
 use Rattle.protocol.specs.Conditions.{LengthAmiss, NoPlan, BarrierAmiss, UnknownOp, WorkerAmiss, StepBeyond, OperandOutside, SizeMissing, SkipBeyond, Test, recordTests, skipTests, over, fileTests, runTests, FirstDue}
 use Rattle.protocol.proofs.Records.{one, split, stepsIn-append}
@@ -191,7 +191,7 @@ accepted-runnable : (file turns : List ℕ) (b : Buffers) → runVerdict file tu
 accepted-runnable file turns b ok =
     record {
       buffers = split (misfit b) (λ e. absurd (n .0 (misfitting b e))) (fitting b);
-      short = elim (decLt turnLimit (length turns)) [ yes l ↦ absurd (n .1 .0 l) | no l ↦ omega arith ];
+      short = elim (decLt turnsLimit (length turns)) [ yes l ↦ absurd (n .1 .0 l) | no l ↦ omega arith ];
       wellFormed =
           accepted-formed file
           (decided (fileTests file) (check file) (check-first file) (none-left (fileTests file) _ (n .1 .1)));

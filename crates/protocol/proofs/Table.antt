@@ -6,7 +6,7 @@ use lib.ListN.{length, replicate}
 use Rattle.protocol.specs.Format.{planOf}
 use Rattle.protocol.specs.RoundRun.{roundRun}
 use Rattle.protocol.specs.Listing.{listedTurns}
-use Rattle.protocol.specs.Calls.{memorySize, logSize, reportSize, workSize, Buffers, Outcome, buffersOf, run}
+use Rattle.protocol.specs.Calls.{memoryLength, logLength, reportLength, workLength, Buffers, Outcome, buffersOf, run}
 
 -- "Turns are the listing program's, save in case 10." That has no turns.
 pub data Fed : Type 0 where
@@ -33,10 +33,10 @@ padded size bytes = bytes ++ replicate (size - length bytes) 0
 unfoldable pub lentTo : Case → Buffers
 lentTo c =
     record {
-      memory = padded memorySize (c .lent);
-      log = replicate logSize 170;
-      report = replicate reportSize 170;
-      work = replicate workSize 170;
+      memory = padded memoryLength (c .lent);
+      log = replicate logLength 170;
+      report = replicate reportLength 170;
+      work = replicate workLength 170;
     }
 
 -- What the definitions yield: by turns and, where the plan runs to its end, by the round-by-round run.
@@ -53,7 +53,7 @@ expected c =
     record {
       returned = 0;
       buffers =
-          record { memory = padded memorySize (c .memory); log = padded logSize (c .log); report = c .report; work = replicate workSize 0 };
+          record { memory = padded memoryLength (c .memory); log = padded logLength (c .log); report = c .report; work = replicate workLength 0 };
     }
 
 unfoldable pub expects : Case → List Outcome

@@ -11,20 +11,20 @@ use Rattle.protocol.specs.Turns.{workersOf, start, play}
 use Rattle.protocol.specs.Report.{logBytes, reportBytes}
 
 -- "Lent to a run: memory 2,048 bytes, log 8,256, report 16, work 32,768."
-abbrev pub memorySize : ℕ
-memorySize = 2048
+abbrev pub memoryLength : ℕ
+memoryLength = 2048
 
-abbrev pub logSize : ℕ
-logSize = 8256
+abbrev pub logLength : ℕ
+logLength = 8256
 
-abbrev pub reportSize : ℕ
-reportSize = 16
+abbrev pub reportLength : ℕ
+reportLength = 16
 
-abbrev pub workSize : ℕ
-workSize = 32768
+abbrev pub workLength : ℕ
+workLength = 32768
 
-abbrev pub turnLimit : ℕ
-turnLimit = 65535
+abbrev pub turnsLimit : ℕ
+turnsLimit = 65535
 
 pub record Buffers : Type 0 where
   pub memory : List ℕ
@@ -44,10 +44,10 @@ checkCode file = codeOf (check file)
 -- "11, a lent buffer of another length"
 abbrev pub misfit : Buffers → Bool
 misfit b =
-    not (eqb (length (b .memory)) memorySize)
-    || not (eqb (length (b .log)) logSize)
-    || not (eqb (length (b .report)) reportSize)
-    || not (eqb (length (b .work)) workSize)
+    not (eqb (length (b .memory)) memoryLength)
+    || not (eqb (length (b .log)) logLength)
+    || not (eqb (length (b .report)) reportLength)
+    || not (eqb (length (b .work)) workLength)
 
 -- "13, a turn naming a worker not below n"
 unfoldable pub namesNobody : ℕ → List ℕ → Bool
@@ -62,16 +62,16 @@ both (refused f i) next = refused f i
 unfoldable pub runVerdict : List ℕ → List ℕ → Buffers → Verdict
 runVerdict file turns b =
     ruled (refuseIf (misfit b) badBuffer holds) 0
-    (ruled (refuseIf (ltb turnLimit (length turns)) tooManyTurns holds) 0
+    (ruled (refuseIf (ltb turnsLimit (length turns)) tooManyTurns holds) 0
     (both (check file)
     (ruled (refuseIf (namesNobody (workersOf (planOf file)) turns) badTurn holds) 0 accepted)))
 
 -- "After an accepted run memory is the shared memory, the log's rest is zero, work is all zero."
 unfoldable pub lentLog : State → List ℕ
-lentLog s = logBytes (s .log) ++ replicate (logSize - length (logBytes (s .log))) 0
+lentLog s = logBytes (s .log) ++ replicate (logLength - length (logBytes (s .log))) 0
 
 abbrev pub buffersOf : State → Buffers
-buffersOf s = record { memory = s .memory; log = lentLog s; report = reportBytes s; work = replicate workSize 0 }
+buffersOf s = record { memory = s .memory; log = lentLog s; report = reportBytes s; work = replicate workLength 0 }
 
 -- the state that a list of turns leaves, from the lent memory
 abbrev pub playedFrom : Plan → List ℕ → List ℕ → State

@@ -7,15 +7,16 @@ use mathlib.Core.Logic.{_⊎_}
 use mathlib.Core.List.{List, [], _∷_, _++_}
 use mathlib.Core.Option.{some}
 use lib.ListN.{length, getD}
-use Rattle.protocol.specs.Format.{Record, Row, recordWidth, fileLimit, planMark, recordCount, records, planOf, rowOf, isBarrier, isStep, isSkip, workersIn}
+use Rattle.protocol.specs.Ops.{opPlanRecord, opBarrier}
+use Rattle.protocol.specs.Format.{Record, Row, recordLength, fileLimit, planMark, recordCount, records, planOf, rowOf, isBarrier, isStep, isSkip, workersIn, stepsLimit}
 use Rattle.protocol.specs.Refusals.{Refusal, badLength, badMark, badPlan, badBarrier, badWorker, badOp, badOperand, tooManySteps, noSize, skipTooFar, badBuffer, tooManyTurns, badTurn, Verdict, accepted, refused}
 use Rattle.protocol.specs.Turns.{workersOf}
-use Rattle.protocol.specs.Calls.{Buffers, turnLimit}
+use Rattle.protocol.specs.Calls.{Buffers, turnsLimit}
 use Rattle.protocol.specs.WellFormed.{recordAt, PlanRecord, BarrierRecord, stepsBefore, stepsBehind, Fitting}
 
 -- "1, file length 0, not a multiple of 7, or above 7,231"
 abbrev pub LengthAmiss : List ℕ → Type 0
-LengthAmiss file = (length file ≡ 0) ⊎ ((length file % recordWidth ≡ 0 → ⊥) ⊎ (fileLimit < length file))
+LengthAmiss file = (length file ≡ 0) ⊎ ((length file % recordLength ≡ 0 → ⊥) ⊎ (fileLimit < length file))
 
 -- The conditions of a record r, which has the index i among rs.
 
@@ -25,7 +26,7 @@ NoMark r = r .mark ≡ planMark → ⊥
 
 -- "3 first record isn't a plan record within its limits, or op 0 later"
 abbrev pub NoPlan : ℕ → Record → Type 0
-NoPlan i r = ((i ≡ 0) × (PlanRecord r → ⊥)) ⊎ ((1 ≤ i) × (r .op ≡ 0))
+NoPlan i r = ((i ≡ 0) × (PlanRecord r → ⊥)) ⊎ ((1 ≤ i) × (r .op ≡ opPlanRecord))
 
 -- a record before it of which something holds
 abbrev pub Before : List Record → ℕ → (Record → Type 0) → Type 0
@@ -40,7 +41,7 @@ BarrierAmiss rs i r =
 
 -- "6 unknown op": neither that of a plan record nor that of a barrier record, and without a row
 abbrev pub UnknownOp : Record → Type 0
-UnknownOp r = (r .op ≡ 0 → ⊥) × (isBarrier r ≡ false) × (isStep r ≡ false)
+UnknownOp r = (r .op ≡ opPlanRecord → ⊥) × (isBarrier r ≡ false) × (isStep r ≡ false)
 
 -- "5 step's worker not below n, or falling"
 abbrev pub WorkerAmiss : List Record → ℕ → Record → Type 0
@@ -50,7 +51,7 @@ WorkerAmiss rs i r =
 
 -- "8 a worker's 129th step"
 abbrev pub StepBeyond : List Record → ℕ → Record → Type 0
-StepBeyond rs i r = (isStep r ≡ true) × (128 ≤ stepsBefore rs i r)
+StepBeyond rs i r = (isStep r ≡ true) × (stepsLimit ≤ stepsBefore rs i r)
 
 -- "7 operand out of range"
 abbrev pub OperandOutside : Record → Type 0
@@ -61,7 +62,7 @@ OperandOutside r =
 
 -- "9 barrier without a size"
 abbrev pub SizeMissing : List Record → ℕ → Record → Type 0
-SizeMissing rs i r = (r .op ≡ 37) × (Before rs i (λ q. (isBarrier q ≡ true) × (q .register ≡ r .number)) → ⊥)
+SizeMissing rs i r = (r .op ≡ opBarrier) × (Before rs i (λ q. (isBarrier q ≡ true) × (q .register ≡ r .number)) → ⊥)
 
 -- "10 skip too far"
 abbrev pub SkipBeyond : List Record → ℕ → Record → Type 0
@@ -112,7 +113,7 @@ fileTests file =
 abbrev pub runTests : List ℕ → List ℕ → Buffers → List Test
 runTests file turns b =
     test badBuffer 0 (Fitting b → ⊥)
-    ∷ test tooManyTurns 0 (turnLimit < length turns)
+    ∷ test tooManyTurns 0 (turnsLimit < length turns)
     ∷ (fileTests file
     ++ (test badTurn 0 ((k : ℕ) × (k < length turns) × (workersOf (planOf file) ≤ getD turns k 0)) ∷ []))
 

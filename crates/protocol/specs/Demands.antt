@@ -10,7 +10,7 @@ use Rattle.protocol.specs.Rounds.{Entry}
 use Rattle.protocol.specs.Turns.{workersOf, start, movingTurns, ended}
 use Rattle.protocol.specs.RoundRun.{moveLimit, roundRun}
 use Rattle.protocol.specs.Report.{logBytes}
-use Rattle.protocol.specs.Calls.{Buffers, buffersOf, logSize, playedFrom}
+use Rattle.protocol.specs.Calls.{Buffers, buffersOf, logLength, playedFrom}
 
 -- "A whole cycle is n turns, one right behind the other, that name each of the n workers once"
 unfoldable pub occurs : ℕ → List ℕ → ℕ
@@ -54,7 +54,7 @@ pub record Demand3Bytes (plan : Plan) (memory turns : List ℕ) (left : Buffers)
   pub logPrefix :
       (es : List Entry)
       × Prefix es (roundRun plan memory .log)
-      × (left .log ≡ logBytes es ++ replicate (logSize - length (logBytes es)) 0)
+      × (left .log ≡ logBytes es ++ replicate (logLength - length (logBytes es)) 0)
       × (word (getD (left .report) 6 0) (getD (left .report) 7 0) ≡ length es)
   -- the report's moving turns are the turns of the list that moved, within the limit
   pub movesCounted : word (getD (left .report) 2 0) (getD (left .report) 3 0) ≡ movingTurns plan (start plan memory) turns

@@ -5,19 +5,39 @@ use mathlib.Core.List.{List, [], _∷_, map}
 use mathlib.Core.Option.{Option, none, some}
 use lib.Dec.{leb, eqb}
 use lib.ListN.{length, getD}
+use Rattle.protocol.specs.Ops.{opBarrierRecord, opSet, opLoad, opStore, opAdd, opSubtract, opSkipZero, opSkipNonzero, opLock, opUnlock, opWait, opSignal, opBroadcast, opBarrier, opExit}
 
 -- "Two-byte numbers are low byte first."
 abbrev pub word : ℕ → ℕ → ℕ
 word low high = low + 256 * high
 
 -- "Records of 7 bytes: the mark 4D 50, worker, op, register (one byte each), number (two bytes)."
-abbrev pub recordWidth : ℕ
-recordWidth = 7
+abbrev pub recordLength : ℕ
+recordLength = 7
 
 abbrev pub planMark : ℕ
 planMark = word 0x4D 0x50
 
--- the longest file: a plan record, 8 barrier records, and 128 steps of each of 8 workers
+-- "count of workers n (1 to 8)"
+abbrev pub workersLimit : ℕ
+workersLimit = 8
+
+-- "register = barrier (0 to 7), number = size (1 to 8)"
+abbrev pub barrierCount : ℕ
+barrierCount = 8
+
+abbrev pub sizeLimit : ℕ
+sizeLimit = 8
+
+-- "Each worker has four 16-bit registers"
+abbrev pub registerCount : ℕ
+registerCount = 4
+
+-- "at most 128 a worker"
+abbrev pub stepsLimit : ℕ
+stepsLimit = 128
+
+-- the longest file: a plan record, and as many barrier records and steps of each worker as there may be
 abbrev pub fileLimit : ℕ
 fileLimit = 7231
 
@@ -42,10 +62,10 @@ recordFrom file at =
 -- so many records, the first of which has the given index
 unfoldable pub recordsFrom : List ℕ → ℕ → ℕ → List Record
 recordsFrom file zero i = []
-recordsFrom file (suc k) i = recordFrom file (recordWidth * i) ∷ recordsFrom file k (suc i)
+recordsFrom file (suc k) i = recordFrom file (recordLength * i) ∷ recordsFrom file k (suc i)
 
 unfoldable pub recordCount : List ℕ → ℕ
-recordCount file = length file / recordWidth
+recordCount file = length file / recordLength
 
 unfoldable pub records : List ℕ → List Record
 records file = recordsFrom file (recordCount file) 0
@@ -83,20 +103,20 @@ syncRow o s m = row o (λ r k. sync (s k)) 0 0 m
 
 abbrev pub table : List Row
 table =
-    ownRow 16 assign 0 65535
-    ∷ ownRow 17 load 0 2046
-    ∷ ownRow 18 store 0 2046
-    ∷ ownRow 19 add 0 3
-    ∷ ownRow 20 subtract 0 3
-    ∷ ownRow 21 skipZero 1 127
-    ∷ ownRow 22 skipNonzero 1 127
-    ∷ syncRow 32 lock 15
-    ∷ syncRow 33 unlock 15
-    ∷ syncRow 34 wait 7
-    ∷ syncRow 35 signal 7
-    ∷ syncRow 36 broadcast 7
-    ∷ syncRow 37 barrier 7
-    ∷ syncRow 38 (λ k. exit) 0
+    ownRow opSet assign 0 65535
+    ∷ ownRow opLoad load 0 2046
+    ∷ ownRow opStore store 0 2046
+    ∷ ownRow opAdd add 0 3
+    ∷ ownRow opSubtract subtract 0 3
+    ∷ ownRow opSkipZero skipZero 1 127
+    ∷ ownRow opSkipNonzero skipNonzero 1 127
+    ∷ syncRow opLock lock 15
+    ∷ syncRow opUnlock unlock 15
+    ∷ syncRow opWait wait 7
+    ∷ syncRow opSignal signal 7
+    ∷ syncRow opBroadcast broadcast 7
+    ∷ syncRow opBarrier barrier 7
+    ∷ syncRow opExit (λ k. exit) 0
     ∷ []
 
 unfoldable pub rowIn : List Row → ℕ → Option Row
@@ -114,14 +134,14 @@ unfoldable pub stepOf : Record → Step
 stepOf r = elim (rowOf (r .op)) [ none ↦ sync exit | some x ↦ x .step (r .register) (r .number) ]
 
 abbrev pub isBarrier : Record → Bool
-isBarrier r = eqb (r .op) 1
+isBarrier r = eqb (r .op) opBarrierRecord
 
 abbrev pub isStep : Record → Bool
 isStep r = known (r .op)
 
 -- "21, 22: skip the next k steps if register is zero, is not zero"
 abbrev pub isSkip : ℕ → Bool
-isSkip o = eqb o 21 || eqb o 22
+isSkip o = eqb o opSkipZero || eqb o opSkipNonzero
 
 abbrev pub isStepOf : ℕ → Record → Bool
 isStepOf w r = isStep r && eqb (r .worker) w
@@ -158,9 +178,6 @@ countFrom (suc k) i = i ∷ countFrom k (suc i)
 
 abbrev pub upTo : ℕ → List ℕ
 upTo k = countFrom k 0
-
-abbrev pub barrierCount : ℕ
-barrierCount = 8
 
 -- A plan: the steps of worker 0, 1, .. n − 1, and the size of each barrier.
 pub record Plan : Type 0 where

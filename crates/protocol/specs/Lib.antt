@@ -1,4 +1,5 @@
 -- Document 01, a module for each of its sections, in its order.
+pub mod Ops
 pub mod Format
 pub mod Refusals
 pub mod Pages

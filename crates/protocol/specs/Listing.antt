@@ -13,7 +13,7 @@ use Rattle.protocol.specs.Rounds.{Entry, State}
 use Rattle.protocol.specs.Turns.{workersOf}
 use Rattle.protocol.specs.RoundRun.{moveLimit}
 use Rattle.protocol.specs.Report.{End, underWay, finished, stuck, endOf}
-use Rattle.protocol.specs.Calls.{memorySize, playedFrom}
+use Rattle.protocol.specs.Calls.{memoryLength, playedFrom}
 
 unfoldable pub cycles : ℕ → ℕ → List ℕ
 cycles n zero = []
@@ -25,7 +25,7 @@ listedTurns plan = cycles (workersOf plan) (moveLimit plan)
 
 -- "uses zero memory and 2 × (steps + n) cycles": the state that they leave
 abbrev pub listedState : Plan → State
-listedState plan = playedFrom plan (replicate memorySize 0) (listedTurns plan)
+listedState plan = playedFrom plan (replicate memoryLength 0) (listedTurns plan)
 
 -- a text's bytes
 abbrev pub ascii : String → List ℕ

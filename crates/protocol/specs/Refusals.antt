@@ -5,7 +5,8 @@ use mathlib.Core.List.{List, [], _∷_, _++_}
 use mathlib.Core.Option.{Option, none, some}
 use lib.Dec.{leb, ltb, eqb}
 use lib.ListN.{length}
-use Rattle.protocol.specs.Format.{Record, Row, records, recordWidth, fileLimit, planMark, rowOf, known, isBarrier, isStep, isSkip, workersIn, stepsIn, barrierCount}
+use Rattle.protocol.specs.Ops.{opPlanRecord, opBarrier}
+use Rattle.protocol.specs.Format.{Record, Row, records, recordLength, fileLimit, planMark, rowOf, known, isBarrier, isStep, isSkip, workersIn, stepsIn, workersLimit, barrierCount, sizeLimit, stepsLimit}
 
 pub data Refusal : Type 0 where
   badLength badMark badPlan badBarrier badWorker badOp badOperand tooManySteps noSize skipTooFar : Refusal
@@ -61,13 +62,13 @@ outside least most k = ltb k least || ltb most k
 
 -- "1, file length 0, not a multiple of 7, or above 7,231"
 unfoldable pub lengthRule : ℕ → Rule
-lengthRule bytes = refuseIf (eqb bytes 0 || not (eqb (bytes % recordWidth) 0) || ltb fileLimit bytes) badLength holds
+lengthRule bytes = refuseIf (eqb bytes 0 || not (eqb (bytes % recordLength) 0) || ltb fileLimit bytes) badLength holds
 
 -- "3 first record isn't a plan record within its limits": "op 0, worker byte = count of workers n (1 to 8), register 0, number 0"
 unfoldable pub planRule : Record → Rule
 planRule r =
     refuseIf
-    (not (eqb (r .op) 0) || outside 1 8 (r .worker) || not (eqb (r .register) 0) || not (eqb (r .number) 0))
+    (not (eqb (r .op) opPlanRecord) || outside 1 workersLimit (r .worker) || not (eqb (r .register) 0) || not (eqb (r .number) 0))
     badPlan
     holds
 
@@ -80,7 +81,7 @@ barrierRule before r =
     || anyOf isStep before
     || not (eqb (r .worker) 0)
     || leb barrierCount (r .register)
-    || outside 1 8 (r .number))
+    || outside 1 sizeLimit (r .number))
     badBarrier
     holds
 
@@ -96,17 +97,17 @@ stepRule before r =
     (refuseIf
     (leb (workersIn before) (r .worker) || anyOf (λ q. isStep q && ltb (r .worker) (q .worker)) before)
     badWorker
-    (refuseIf (leb 128 (length (stepsIn before (r .worker)))) tooManySteps
+    (refuseIf (leb stepsLimit (length (stepsIn before (r .worker)))) tooManySteps
     (refuseIf (operandsOutside (rowOf (r .op)) (r .register) (r .number)) badOperand
     (refuseIf
-    (eqb (r .op) 37 && not (anyOf (λ q. isBarrier q && eqb (q .register) (r .number)) before))
+    (eqb (r .op) opBarrier && not (anyOf (λ q. isBarrier q && eqb (q .register) (r .number)) before))
     noSize
     holds))))
 
 -- "3 .. or op 0 later"
 unfoldable pub laterRule : List Record → Record → Rule
 laterRule before r =
-    refuseIf (eqb (r .op) 0) badPlan
+    refuseIf (eqb (r .op) opPlanRecord) badPlan
     (cond (isBarrier r) (barrierRule before r) (stepRule before r))
 
 -- The rule of a record, by the records before it: "record by record in the order just written up to 9".

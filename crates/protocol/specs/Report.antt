@@ -4,7 +4,7 @@ use mathlib.Core.Bool.{Bool, true, false, cond, _&&_}
 use mathlib.Core.List.{List, [], _∷_, _++_, map}
 use lib.Dec.{ltb}
 use lib.ListN.{length}
-use Rattle.protocol.specs.Format.{upTo}
+use Rattle.protocol.specs.Format.{workersLimit, word, upTo}
 use Rattle.protocol.specs.Steps.{onCondition, atBarrier, Fate, going, exited, failed, waiting, Worker}
 use Rattle.protocol.specs.Rounds.{Entry, State, workerAt}
 use Rattle.protocol.specs.Turns.{ended}
@@ -14,8 +14,14 @@ abbrev pub twoBytes : ℕ → List ℕ
 twoBytes k = (k % 256) ∷ (k / 256 % 256) ∷ []
 
 -- "Each executed synchronising step adds 8 bytes: mark 4D 4C, round (two), worker, op, number (one each), outcome."
+abbrev pub entryLength : ℕ
+entryLength = 8
+
+abbrev pub logMark : ℕ
+logMark = word 0x4D 0x4C
+
 abbrev pub entryBytes : Entry → List ℕ
-entryBytes e = 0x4D ∷ 0x4C ∷ (twoBytes (e .round) ++ (e .worker ∷ e .op ∷ e .number ∷ e .outcome ∷ []))
+entryBytes e = twoBytes logMark ++ (twoBytes (e .round) ++ (e .worker ∷ e .op ∷ e .number ∷ e .outcome ∷ []))
 
 unfoldable pub logBytes : List Entry → List ℕ
 logBytes [] = []
@@ -47,12 +53,15 @@ fateNumber failed = 2
 fateNumber (waiting (onCondition c)) = 3
 fateNumber (waiting (atBarrier b)) = 4
 
+abbrev pub noWorker : ℕ
+noWorker = 255
+
 unfoldable pub fateByte : State → ℕ → ℕ
-fateByte s w = cond (ltb w (length (s .workers))) (fateNumber (workerAt s w .fate)) 255
+fateByte s w = cond (ltb w (length (s .workers))) (fateNumber (workerAt s w .fate)) noWorker
 
 -- "Report, 16 bytes: end; n; moving turns; rounds completed; log records (two bytes each); then eight fates"
 unfoldable pub reportBytes : State → List ℕ
 reportBytes s =
     endNumber (endOf s)
     ∷ length (s .workers)
-    ∷ (twoBytes (s .moves) ++ (twoBytes (s .rounds) ++ (twoBytes (length (s .log)) ++ map (λ w. fateByte s w) (upTo 8))))
+    ∷ (twoBytes (s .moves) ++ (twoBytes (s .rounds) ++ (twoBytes (length (s .log)) ++ map (λ w. fateByte s w) (upTo workersLimit))))

@@ -4,6 +4,7 @@ use mathlib.Core.Bool.{Bool, true, false, cond, not, _||_}
 use mathlib.Core.List.{List, [], _∷_, _++_}
 use lib.Dec.{ltb, eqb}
 use lib.ListN.{length, getD, set}
+use Rattle.protocol.specs.Ops.{opLock, opUnlock, opWait, opSignal, opBroadcast, opBarrier, opExit}
 use Rattle.protocol.specs.Format.{Own, Sync, lock, unlock, wait, signal, broadcast, barrier, exit, Plan}
 use Rattle.protocol.specs.Pages.{Copies, noCopies, commit}
 use Rattle.protocol.specs.Steps.{Queue, onCondition, atBarrier, Fate, going, exited, failed, waiting, Worker, workerOf, newWorker, fateAs, arrivedAs, ownStep}
@@ -92,9 +93,19 @@ pub record Ruling : Type 0 where
 abbrev pub ruling : Bytes → ℕ → Goes → List ℕ → List ℕ → ℕ → Ruling
 ruling b h g ws js o = record { bytes = b; held = h; goes = g; wakes = ws; joins = js; outcome = o }
 
+-- Outcomes that name neither a worker nor a count: "barrier, 0 if it queued", "a failure 254", "the woken worker or 255 ..; wait and exit 255".
+abbrev pub outcomeQueued : ℕ
+outcomeQueued = 0
+
+abbrev pub outcomeFailed : ℕ
+outcomeFailed = 254
+
+abbrev pub outcomeNone : ℕ
+outcomeNone = 255
+
 -- "Failure: .. The worker leaves for good and its uncommitted bytes are lost." The outcome is "254 with the op as met".
 abbrev pub failure : ℕ → Ruling
-failure held = ruling lost held (leaves failed) [] [] 254
+failure held = ruling lost held (leaves failed) [] [] outcomeFailed
 
 -- "With count 0 give up the token, else run on."
 abbrev pub givesAtZero : ℕ → Goes
@@ -115,12 +126,12 @@ unlockRule held =
 
 -- "Wait: commit, leave, join the tail of that condition's queue, count kept." "Failure: .. wait with count 0"
 abbrev pub waitRule : ℕ → ℕ → Ruling
-waitRule c held = cond (eqb held 0) (failure held) (ruling committed held (leaves (waiting (onCondition c))) [] [] 255)
+waitRule c held = cond (eqb held 0) (failure held) (ruling committed held (leaves (waiting (onCondition c))) [] [] outcomeNone)
 
 -- "Signal: commit; the first waiter, if any, goes directly behind the holder in this round's list."
 -- The outcome is "the woken worker or 255". "Broadcast: as signal."
 abbrev pub signalRule : List ℕ → ℕ → Ruling
-signalRule [] held = ruling committed held (givesAtZero held) [] [] 255
+signalRule [] held = ruling committed held (givesAtZero held) [] [] outcomeNone
 signalRule (w ∷ ws) held = ruling committed held (givesAtZero held) (w ∷ []) [] w
 
 -- "Barrier: commit. With fewer than size − 1 queued, leave and queue. Otherwise the queued workers join the next list in order of arrival,
@@ -129,12 +140,12 @@ abbrev pub barrierRule : ℕ → ℕ → List ℕ → ℕ → Ruling
 barrierRule b size queued held =
     cond (not (eqb held 0)) (failure held)
     (cond (ltb (length queued) (size - 1))
-    (ruling committed held (leaves (waiting (atBarrier b))) [] [] 0)
+    (ruling committed held (leaves (waiting (atBarrier b))) [] [] outcomeQueued)
     (ruling committed held gives [] queued size))
 
 -- "Exit: commit, leave." "Failure: .. exit with count above 0"
 abbrev pub exitRule : ℕ → Ruling
-exitRule held = cond (not (eqb held 0)) (failure held) (ruling committed held (leaves exited) [] [] 255)
+exitRule held = cond (not (eqb held 0)) (failure held) (ruling committed held (leaves exited) [] [] outcomeNone)
 
 unfoldable pub ruleOf : Plan → (Queue → List ℕ) → ℕ → Sync → Ruling
 ruleOf plan queue held (lock k) = lockRule held
@@ -146,7 +157,7 @@ ruleOf plan queue held (barrier b) = barrierRule b (getD (plan .sizes) b 0) (que
 ruleOf plan queue held exit = exitRule held
 
 abbrev pub opOf : Sync → ℕ
-opOf y = elim y [ lock k ↦ 32 | unlock k ↦ 33 | wait c ↦ 34 | signal c ↦ 35 | broadcast c ↦ 36 | barrier b ↦ 37 | exit ↦ 38 ]
+opOf y = elim y [ lock k ↦ opLock | unlock k ↦ opUnlock | wait c ↦ opWait | signal c ↦ opSignal | broadcast c ↦ opBroadcast | barrier b ↦ opBarrier | exit ↦ opExit ]
 
 abbrev pub operandOf : Sync → ℕ
 operandOf y = elim y [ lock k ↦ k | unlock k ↦ k | wait c ↦ c | signal c ↦ c | broadcast c ↦ c | barrier b ↦ b | exit ↦ 0 ]

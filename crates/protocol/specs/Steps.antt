@@ -4,7 +4,7 @@ use mathlib.Core.Bool.{Bool, false, cond, not}
 use mathlib.Core.List.{List, []}
 use lib.Dec.{eqb}
 use lib.ListN.{getD, set, replicate}
-use Rattle.protocol.specs.Format.{Own, assign, load, store, add, subtract, skipZero, skipNonzero, Step, sync, exit, Plan}
+use Rattle.protocol.specs.Format.{Own, assign, load, store, add, subtract, skipZero, skipNonzero, Step, sync, exit, registerCount, Plan}
 use Rattle.protocol.specs.Pages.{Copies, noCopies, loadWord, storeWord}
 
 -- What a worker can be queued on: one waiting list holds them all, in order of arrival, and the fate says which queue it is.
@@ -29,7 +29,7 @@ workerOf p rs h b cs f = record { place = p; registers = rs; held = h; arrived =
 
 -- "Each worker has four 16-bit registers, zero at first."
 unfoldable pub newWorker : Worker
-newWorker = workerOf 0 (replicate 4 0) 0 false noCopies going
+newWorker = workerOf 0 (replicate registerCount 0) 0 false noCopies going
 
 -- antt has no record update: the worker with one of its parts anew
 abbrev pub placeAs : ℕ → Worker → Worker

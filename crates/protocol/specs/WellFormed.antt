@@ -7,9 +7,10 @@ use mathlib.Core.Logic.{_⊎_}
 use mathlib.Core.List.{List}
 use mathlib.Core.Option.{some}
 use lib.ListN.{length, getD, take, drop}
-use Rattle.protocol.specs.Format.{Record, Row, recordWidth, fileLimit, planMark, recordCount, records, planOf, rowOf, isBarrier, isStep, isSkip, workersIn, stepsIn, barrierCount}
+use Rattle.protocol.specs.Ops.{opPlanRecord, opBarrierRecord, opBarrier}
+use Rattle.protocol.specs.Format.{Record, Row, recordLength, fileLimit, planMark, recordCount, records, planOf, rowOf, isBarrier, isStep, isSkip, workersIn, stepsIn, workersLimit, barrierCount, sizeLimit, stepsLimit}
 use Rattle.protocol.specs.Turns.{workersOf}
-use Rattle.protocol.specs.Calls.{Buffers, memorySize, logSize, reportSize, workSize, turnLimit}
+use Rattle.protocol.specs.Calls.{Buffers, memoryLength, logLength, reportLength, workLength, turnsLimit}
 
 -- no record: its op has no row
 abbrev pub blank : Record
@@ -20,19 +21,19 @@ recordAt rs i = getD rs i blank
 
 -- "First the plan record: op 0, worker byte = count of workers n (1 to 8), register 0, number 0."
 pub record PlanRecord (r : Record) : Type 0 where
-  pub op : r .op ≡ 0
+  pub op : r .op ≡ opPlanRecord
   pub least : 1 ≤ r .worker
-  pub most : r .worker ≤ 8
+  pub most : r .worker ≤ workersLimit
   pub register : r .register ≡ 0
   pub number : r .number ≡ 0
 
 -- "op 1, worker byte 0, register = barrier (0 to 7), number = size (1 to 8). A size above n is allowed."
 pub record BarrierRecord (r : Record) : Type 0 where
-  pub op : r .op ≡ 1
+  pub op : r .op ≡ opBarrierRecord
   pub worker : r .worker ≡ 0
   pub barrier : r .register < barrierCount
   pub least : 1 ≤ r .number
-  pub most : r .number ≤ 8
+  pub most : r .number ≤ sizeLimit
 
 -- a step of one of the n workers: its op has a row of the table, and register and number are in that row's ranges
 pub record StepRecord (n : ℕ) (r : Record) : Type 0 where
@@ -66,31 +67,31 @@ pub record FormedRecords (rs : List Record) : Type 0 where
       (i j : ℕ) → i < j → j < length rs → isStep (recordAt rs i) ≡ true → isStep (recordAt rs j) ≡ true
       → recordAt rs i .worker ≤ recordAt rs j .worker
   -- "at most 128 a worker"
-  pub few : (w : ℕ) → length (stepsIn rs w) ≤ 128
+  pub few : (w : ℕ) → length (stepsIn rs w) ≤ stepsLimit
   -- the barrier that a barrier step names has a size
   pub sized :
-      (j : ℕ) → j < length rs → recordAt rs j .op ≡ 37
+      (j : ℕ) → j < length rs → recordAt rs j .op ≡ opBarrier
       → (i : ℕ) × (i < length rs) × (isBarrier (recordAt rs i) ≡ true) × (recordAt rs i .register ≡ recordAt rs j .number)
   -- "A skip may land just behind the last step, not further."
   pub skips : (i : ℕ) → i < length rs → isSkip (recordAt rs i .op) ≡ true → recordAt rs i .number ≤ stepsBehind rs i (recordAt rs i)
 
 pub record WellFormed (file : List ℕ) : Type 0 where
   -- "Records of 7 bytes", at least one, and at most 7,231 bytes in all
-  pub whole : length file ≡ recordWidth * recordCount file
+  pub whole : length file ≡ recordLength * recordCount file
   pub some : 1 ≤ recordCount file
   pub most : length file ≤ fileLimit
   pub formed : FormedRecords (records file)
 
 -- "Lent to a run: memory 2,048 bytes, log 8,256, report 16, work 32,768."
 pub record Fitting (b : Buffers) : Type 0 where
-  pub memory : length (b .memory) ≡ memorySize
-  pub log : length (b .log) ≡ logSize
-  pub report : length (b .report) ≡ reportSize
-  pub work : length (b .work) ≡ workSize
+  pub memory : length (b .memory) ≡ memoryLength
+  pub log : length (b .log) ≡ logLength
+  pub report : length (b .report) ≡ reportLength
+  pub work : length (b .work) ≡ workLength
 
 -- What a run accepts: fitting buffers, a list of at most 65,535 turns, a well-formed file, and turns that name its workers.
 pub record Runnable (file turns : List ℕ) (b : Buffers) : Type 0 where
   pub buffers : Fitting b
-  pub short : length turns ≤ turnLimit
+  pub short : length turns ≤ turnsLimit
   pub wellFormed : WellFormed file
   pub named : (k : ℕ) → k < length turns → getD turns k 0 < workersOf (planOf file)

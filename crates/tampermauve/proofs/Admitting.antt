@@ -12,7 +12,7 @@ use borrow.Author.Tests.{leb-true, leb-false, le-leb, lt-leb, eq-eqb}
 use Rattle.protocol.specs.Format.{planOf, records}
 use Rattle.protocol.specs.Refusals.{Refusal, numberOf, Verdict, accepted, refused, codeOf, check}
 use Rattle.protocol.specs.Turns.{workersOf}
-use Rattle.protocol.specs.Calls.{both, namesNobody, turnLimit}
+use Rattle.protocol.specs.Calls.{both, namesNobody, turnsLimit}
 use Rattle.protocol.proofs.Records.{or-false}
 use Rattle.protocol.proofs.Accepted.{accepted-file, workers-of}
 use Rattle.protocol.proofs.FirstDue.{AsLent, as-lent}
@@ -83,16 +83,16 @@ first-refused (refused f i) next h = refl
 
 module _ (file turns : List ℕ) (l : Lengths) where
   abbrev pub decided : ℕ
-  decided = codeOf (verdictBy (misfitBy l) (ltb turnLimit (length turns)) (check file) (namesNobody (workersOf (planOf file)) turns))
+  decided = codeOf (verdictBy (misfitBy l) (ltb turnsLimit (length turns)) (check file) (namesNobody (workersOf (planOf file)) turns))
 
   -- the answer by what the tests gave
-  pub tests : (m t s : Bool) (v : Verdict) → misfitBy l ≡ m → ltb turnLimit (length turns) ≡ t → check file ≡ v → namesNobody (workersOf (planOf file)) turns ≡ s
+  pub tests : (m t s : Bool) (v : Verdict) → misfitBy l ≡ m → ltb turnsLimit (length turns) ≡ t → check file ≡ v → namesNobody (workersOf (planOf file)) turns ≡ s
       → codeOf (verdictBy m t v s) ≡ decided
   tests m t s v em et ev es =
       ap (λ (b : Bool). codeOf (verdictBy m t v b)) (sym es)
       ∙ (ap (λ (u : Verdict). codeOf (verdictBy m t u (namesNobody (workersOf (planOf file)) turns))) (sym ev)
       ∙ (ap (λ (b : Bool). codeOf (verdictBy m b (check file) (namesNobody (workersOf (planOf file)) turns))) (sym et)
-      ∙ ap (λ (b : Bool). codeOf (verdictBy b (ltb turnLimit (length turns)) (check file) (namesNobody (workersOf (planOf file)) turns))) (sym em)))
+      ∙ ap (λ (b : Bool). codeOf (verdictBy b (ltb turnsLimit (length turns)) (check file) (namesNobody (workersOf (planOf file)) turns))) (sym em)))
 
   pub refuses : (a : Admitted) (f : Refusal) → a .code ≡ numberOf f → numberOf f ≡ decided → Admits file turns l a
   refuses a f e d = record { code = e ∙ d; layout = λ z. absurd (omega (arith, e, z, numbered f .0)) }

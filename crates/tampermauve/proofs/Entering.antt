@@ -8,7 +8,7 @@ use lib.ListN.{length}
 use Rattle.protocol.specs.Format.{planOf}
 use Rattle.protocol.specs.Refusals.{accepted, check}
 use Rattle.protocol.specs.Turns.{workersOf}
-use Rattle.protocol.specs.Calls.{Buffers, misfit, turnLimit, namesNobody}
+use Rattle.protocol.specs.Calls.{Buffers, misfit, turnsLimit, namesNobody}
 use Rattle.protocol.specs.WellFormed.{Fitting}
 use Rattle.protocol.proofs.FirstDue.{fitting}
 use Rattle.engine.specs.Moving.{Playing}
@@ -21,7 +21,7 @@ module _ (file turns : List ℕ) (b : Buffers) (a : Admitted) (h : Admits file t
   pub none-refused : 0 ≡ decided file turns b
   none-refused = sym z ∙ h .code
 
-  tested : Passed (misfit b) (ltb turnLimit (length turns)) (check file) (namesNobody (workersOf (planOf file)) turns)
+  tested : Passed (misfit b) (ltb turnsLimit (length turns)) (check file) (namesNobody (workersOf (planOf file)) turns)
   tested = passed file turns b (sym none-refused)
 
   pub fits : Fitting b
@@ -39,7 +39,7 @@ module _ (file turns : List ℕ) (b : Buffers) (a : Admitted) (h : Admits file t
         laid = record { ok = ok; sizesRight = h .layout z .sizes; firstsRight = h .layout z .firsts };
         workers = workers-right;
         known = ap (λ (n : ℕ). namesNobody n turns) workers-right ∙ tested .known;
-        short = ltb-false turnLimit (length turns) (tested .short);
-        bytes = record { memorySize = fits .memory; workSize = fits .work };
+        short = ltb-false turnsLimit (length turns) (tested .short);
+        bytes = record { memoryLength = fits .memory; workLength = fits .work };
         room = fits .log;
       }

@@ -83,7 +83,7 @@ module _ (file turns start-memory : List ℕ) (ok : check file ≡ accepted) (p 
             reportOf (record { end = endBy ws (p .fates) n; workers = n; moves = moves; rounds = rounds; records = records }) (p .fates)
 
     work-same : work′ ≡ replicate 32768 0
-    work-same = left .cleared ∙ ap (λ (k : ℕ). replicate k 0) (o .shows .bytes .sizes .workSize)
+    work-same = left .cleared ∙ ap (λ (k : ℕ). replicate k 0) (o .shows .bytes .sizes .workLength)
 
     pub left-same : lent memory log′ report′ work′ ≡ buffersOf (playedFrom (planOf file) start-memory turns)
     left-same =

@@ -9,7 +9,7 @@ use lib.ListN.{length}
 use Rattle.protocol.specs.Format.{planOf}
 use Rattle.protocol.specs.Refusals.{Verdict, accepted, refused, codeOf, check}
 use Rattle.protocol.specs.Turns.{workersOf}
-use Rattle.protocol.specs.Calls.{Buffers, Outcome, buffersOf, misfit, namesNobody, turnLimit, playedFrom, outcomeOf, runVerdict, run}
+use Rattle.protocol.specs.Calls.{Buffers, Outcome, buffersOf, misfit, namesNobody, turnsLimit, playedFrom, outcomeOf, runVerdict, run}
 use Rattle.protocol.specs.Demands.{Demand3Bytes}
 use Rattle.protocol.proofs.Bytes.{demand3-bytes}
 use Rattle.protocol.proofs.Numbered.{numbered}
@@ -32,10 +32,10 @@ tests-passed false false s (refused f i) e = absurd (omega (arith, e, numbered f
 
 module _ (file turns : List ℕ) (b : Buffers) where
   abbrev pub decided : ℕ
-  decided = codeOf (verdictBy (misfit b) (ltb turnLimit (length turns)) (check file) (namesNobody (workersOf (planOf file)) turns))
+  decided = codeOf (verdictBy (misfit b) (ltb turnsLimit (length turns)) (check file) (namesNobody (workersOf (planOf file)) turns))
 
-  pub passed : decided ≡ 0 → Passed (misfit b) (ltb turnLimit (length turns)) (check file) (namesNobody (workersOf (planOf file)) turns)
-  passed = tests-passed (misfit b) (ltb turnLimit (length turns)) (namesNobody (workersOf (planOf file)) turns) (check file)
+  pub passed : decided ≡ 0 → Passed (misfit b) (ltb turnsLimit (length turns)) (check file) (namesNobody (workersOf (planOf file)) turns)
+  passed = tests-passed (misfit b) (ltb turnsLimit (length turns)) (namesNobody (workersOf (planOf file)) turns) (check file)
 
   pub returned-code : run file turns b .returned ≡ decided
   unfolding run runVerdict

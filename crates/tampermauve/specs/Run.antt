@@ -8,7 +8,7 @@ use lib.ListN.{length}
 use Rattle.protocol.specs.Format.{planOf}
 use Rattle.protocol.specs.Refusals.{Verdict, accepted, codeOf, badBuffer, tooManyTurns, badTurn, holds, refuseIf, ruled, check}
 use Rattle.protocol.specs.Turns.{workersOf}
-use Rattle.protocol.specs.Calls.{Buffers, Outcome, both, namesNobody, run, turnLimit, memorySize, logSize, reportSize, workSize}
+use Rattle.protocol.specs.Calls.{Buffers, Outcome, both, namesNobody, run, turnsLimit, memoryLength, logLength, reportLength, workLength}
 use Rattle.protocol.specs.Demands.{Demand3Bytes}
 use Rattle.plan.specs.Checking.{LaidOut}
 use Rattle.tampermauve.specs.declared.admit.Lengths.{Lengths}
@@ -22,10 +22,10 @@ lengthsOf b = record { memory = length (b .memory); log = length (b .log); repor
 
 abbrev pub misfitBy : Lengths → Bool
 misfitBy l =
-    not (eqb (l .memory) memorySize)
-    || not (eqb (l .log) logSize)
-    || not (eqb (l .report) reportSize)
-    || not (eqb (l .work) workSize)
+    not (eqb (l .memory) memoryLength)
+    || not (eqb (l .log) logLength)
+    || not (eqb (l .report) reportLength)
+    || not (eqb (l .work) workLength)
 
 -- the verdict on a run, by its four tests
 abbrev pub verdictBy : Bool → Bool → Verdict → Bool → Verdict
@@ -37,7 +37,7 @@ pub record Admits (file turns : List ℕ) (l : Lengths) (a : Admitted) : Type 0 
   pub code :
       a .code
       ≡ codeOf
-      (verdictBy (misfitBy l) (ltb turnLimit (length turns)) (check file) (namesNobody (workersOf (planOf file)) turns))
+      (verdictBy (misfitBy l) (ltb turnsLimit (length turns)) (check file) (namesNobody (workersOf (planOf file)) turns))
   pub layout : a .code ≡ 0 → LaidOut file (a .layout)
 
 -- what is returned and left is what the definition gives; and demand 3 of the bytes that an accepted run leaves

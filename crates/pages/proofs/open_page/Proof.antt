@@ -44,7 +44,7 @@ returns-2 c =
     let start = first .before .before .before .before .before .before in
     let a = start .args in
     open-slot (a .slot) (a .p) (a .memory .now) (a .copied .now) (a .work .now)
-    (search needs) (start .pre .0 .memorySize) (start .pre .0 .workSize) (search needs) (start .pre .1) (first .before .before .if1 .left)
+    (search needs) (start .pre .0 .memoryLength) (start .pre .0 .workLength) (search needs) (start .pre .1) (first .before .before .if1 .left)
     (first .copy-page .last .1 .1 .0) (second .copy-page2 .last .1 .1 .0) (first .copy-page .ensures) (second .copy-page2 .ensures)
 
 pub open-page-spec : {M : Type 1} → statement M

@@ -59,7 +59,7 @@ fetch-requires : tie.Need-fetch-requires Inv-loop μ-loop
 fetch-requires c κs = fetch-fits (here (c .before .before .before .before .before .before .before .loop .inv) (c .before .before .before .before .before .before .loop-test .taken) (c .before .before .before .if1 .taken) (c .before .before .before .before .before .before .before .before .before .before .before .before .pre))
 
 same-length : tie.Need-same-length Inv-loop μ-loop
-same-length c = c .before .before .before .before .before .before .before .before .before .before .loop .inv .shows (c .before .before .before .before .before .before .before .before .before .before .before .before .before .before .before .pre) .bytes .sizes .workSize ∙ sym (c .before .before .before .before .before .before .before .before .before .before .before .before .before .before .before .pre .shows .bytes .sizes .workSize)
+same-length c = c .before .before .before .before .before .before .before .before .before .before .loop .inv .shows (c .before .before .before .before .before .before .before .before .before .before .before .before .before .before .before .pre) .bytes .sizes .workLength ∙ sym (c .before .before .before .before .before .before .before .before .before .before .before .before .before .before .before .pre .shows .bytes .sizes .workLength)
 
 returns : tie.Need-returns Inv-loop μ-loop
 returns c =
@@ -128,7 +128,7 @@ loop-again-2 : tie.Need-loop-again-2 Inv-loop μ-loop
 loop-again-2 c = passes (c .before .before .before .before .before .loop .inv) (c .before .if1 .left) (c .pass-over .ensures)
 
 same-length-2 : tie.Need-same-length-2 Inv-loop μ-loop
-same-length-2 c = c .before .loop .inv .shows (c .before .before .before .before .before .before .pre) .bytes .sizes .workSize ∙ sym (c .before .before .before .before .before .before .pre .shows .bytes .sizes .workSize)
+same-length-2 c = c .before .loop .inv .shows (c .before .before .before .before .before .before .pre) .bytes .sizes .workLength ∙ sym (c .before .before .before .before .before .before .pre .shows .bytes .sizes .workLength)
 
 returns-2 : tie.Need-returns-2 Inv-loop μ-loop
 returns-2 c =
