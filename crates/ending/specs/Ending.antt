@@ -6,7 +6,7 @@ use mathlib.Core.List.{List, _++_}
 use lib.Dec.{ltb}
 use lib.ListN.{length, getD, take, replicate}
 use Rattle.protocol.specs.Turns.{noneLeft}
-use Rattle.ending.specs.declared.Counts.{Counts}
+use Rattle.journal.specs.declared.report.Counts.{Counts}
 use Rattle.journal.specs.Bytes.{reportOf}
 
 -- the codes of exited and failed

@@ -1,5 +1,6 @@
 // The end of a run: what it leaves in the lent buffers.
 use journal::log::clear_behind;
+use journal::report::Counts;
 use journal::report::Tallies;
 use journal::report::write_report;
 use queue::Queue;
@@ -40,13 +41,6 @@ fn end_of(list: Queue, fates: &[u64; 8], workers: u8) -> u8
         return 1;
     }
     2
-}
-
-// What a run has counted.
-pub struct Counts {
-    pub moves: u64,
-    pub rounds: u64,
-    pub records: usize,
 }
 
 // The log's rest and work are cleared, and the report is written.

@@ -7,7 +7,7 @@ use mathlib.Core.List.{List}
 use lib.ListN.{length, getD, set, length-set}
 use lib.Seq.{ext-getD, getD-set-same, getD-set-other, set-getD}
 use Rattle.protocol.specs.Format.{countFrom}
-use Rattle.protocol.proofs.Accepted.{mapped}
+use Rattle.protocol.proofs.Lists.{mapped}
 use Rattle.worker.specs.declared.Worker.{Worker}
 use Rattle.engine.specs.Shows.{idle, workerIn, gathered}
 

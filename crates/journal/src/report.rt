@@ -4,6 +4,13 @@ ghost use mathlib.Core.Path.{_≡_};
 ghost use lib.ListN.{length};
 ghost use Rattle.journal.specs.Bytes.{bytesOf, shown, fatesFrom, talliesOf, reportOf};
 
+// What a run counts: the turns that moved, the rounds that are completed, the records of the log.
+pub struct Counts {
+    pub moves: u64,
+    pub rounds: u64,
+    pub records: usize,
+}
+
 pub struct Tallies {
     pub end: u8,
     pub workers: u8,

@@ -14,7 +14,8 @@ use Rattle.protocol.specs.Format as format
 use Rattle.protocol.specs.Format.{Row, table, rowIn, rowOf, isStep, recordFrom, recordsFrom, recordCount, records, Step, sync, exit, stepOf, stepsIn, sizeIn, firstIn, planOf}
 use Rattle.protocol.specs.Refusals.{accepted, check, operandsOutside, anyOf}
 use Rattle.protocol.specs.Steps.{stepsOf, stepAt}
-use Rattle.protocol.proofs.Records.{or-left, or-right, and-left, names, first-inside}
+use Rattle.protocol.proofs.Bools.{or-left, or-right, and-left}
+use Rattle.protocol.proofs.Records.{names, first-inside}
 use Rattle.protocol.proofs.Tabled.{Every, row-of}
 use Rattle.protocol.specs.WellFormed.{blank}
 use Rattle.protocol.proofs.Accepted.{AcceptedFile, accepted-file, length-records, steps-of, size-of}

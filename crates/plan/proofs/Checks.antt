@@ -11,7 +11,7 @@ use Rattle.protocol.specs.Format as format
 use Rattle.protocol.specs.Format.{recordsFrom, recordCount, records}
 use Rattle.protocol.specs.Refusals as protocol
 use Rattle.protocol.specs.Refusals.{refuseIf, holds, ruled, lengthRule, planRule, recordRule, checkRecords}
-use Rattle.protocol.proofs.Records.{or-left, or-right}
+use Rattle.protocol.proofs.Bools.{or-left, or-right}
 use Rattle.plan.specs.Answer.{decodedOf, verdictOf}
 use Rattle.plan.specs.Reading.{recordAt, verdictFrom, BarriersRead}
 use Rattle.plan.specs.Stepping.{StepsSoFar, StepsRead}

@@ -9,7 +9,7 @@ use borrow.Author.Tests.{lt-ltb, le-ltb, ne-eqb, ltb-false}
 use Rattle.protocol.specs.Format as format
 use Rattle.protocol.specs.Format.{rowOf, rowIn, known}
 use Rattle.protocol.specs.Refusals.{operandsOutside}
-use Rattle.protocol.proofs.Records.{or-right}
+use Rattle.protocol.proofs.Bools.{or-right}
 use Rattle.plan.specs.Answer.{limitsOf}
 use Rattle.plan.specs.Stepping.{outsideOf}
 use Rattle.plan.specs.declared.table.Row.{Row}

@@ -14,7 +14,8 @@ use Rattle.protocol.specs.Format as format
 use Rattle.protocol.specs.Format.{Record, recordFrom, recordsFrom, workersIn, isBarrier, isStep, known, rowIn, sizeIn}
 use Rattle.protocol.specs.Refusals as protocol
 use Rattle.protocol.specs.Refusals.{anyOf, ruled, refuseIf, holds, checkRecords, recordRule, laterRule, barrierRule}
-use Rattle.protocol.proofs.Records.{one as one-of, or-left, or-right, or-false, reaches, picks, topIn, topIn-kept, topIn-raised, names-new, sizeIn-other, sizeIn-new}
+use Rattle.protocol.proofs.Bools.{or-left, or-right, or-false}
+use Rattle.protocol.proofs.Records.{one as one-of, reaches, picks, topIn, topIn-kept, topIn-raised, names-new, sizeIn-other, sizeIn-new}
 use Rattle.protocol.proofs.Taken.{barrier-no-step}
 use Rattle.protocol.proofs.Prefix.{Read as PrefixRead, read-first, read-more}
 use Rattle.plan.specs.Answer.{bodyOf, decodedOf}

@@ -12,7 +12,8 @@ use borrow.Author.Tests.{le-leb, eqb-true}
 use Rattle.protocol.specs.Format.{Record, recordsFrom, known, rowIn, isStep, isSkip, stepsIn, firstIn}
 use Rattle.protocol.specs.Refusals as protocol
 use Rattle.protocol.specs.Refusals.{ruled, refuseIf, holds, checkSkips, skipRule}
-use Rattle.protocol.proofs.Records.{split, ltb-same, from, first-least, first-unopened}
+use Rattle.protocol.proofs.Bools.{split}
+use Rattle.protocol.proofs.Records.{ltb-same, from, first-least, first-unopened}
 use Rattle.protocol.specs.WellFormed.{blank}
 use Rattle.plan.specs.Answer.{bodyOf}
 use Rattle.plan.specs.Reading.{recordAt, before}

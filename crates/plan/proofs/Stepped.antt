@@ -15,7 +15,8 @@ use Rattle.protocol.specs.Format as format
 use Rattle.protocol.specs.Format.{Record, recordsFrom, rowIn, rowOf, isBarrier, isStep, workersIn, sizeIn, stepsIn, firstIn}
 use Rattle.protocol.specs.Refusals as protocol
 use Rattle.protocol.specs.Refusals.{anyOf, refuseIf, holds, ruled, operandsOutside, stepRule, barrierRule, laterRule}
-use Rattle.protocol.proofs.Records.{one, split, or-left, or-right, openedIn, names, picks, reaches, topIn-raised, sizeIn-other, first-unopened, first-one-opened, first-inside}
+use Rattle.protocol.proofs.Bools.{split, or-left, or-right}
+use Rattle.protocol.proofs.Records.{one, openedIn, names, picks, reaches, topIn-raised, sizeIn-other, first-unopened, first-one-opened, first-inside}
 use Rattle.protocol.proofs.Taken.{StepTaken, later-taken, passes}
 use Rattle.protocol.proofs.Prefix.{Read, first-step}
 use Rattle.plan.specs.Answer.{bodyOf, decodedOf}

@@ -2,19 +2,21 @@
 use Prim.Native.Nat.{ℕ, zero, suc, _+_, _*_, _%_, _<_, _≤_}
 use mathlib.Core.Bool.{Bool, true, false, cond, not, _&&_, _||_, false≢true}
 use mathlib.Core.Path.{_≡_, refl, sym, ap, _∙_, subst, subst⁻¹}
-use mathlib.Core.List.{List, [], _∷_, _++_, map, append-assoc, append-nil}
+use mathlib.Core.List.{List, [], _∷_, _++_, append-assoc, append-nil}
 use mathlib.Core.Option.{none, some}
 use native.Mathlib.Omega.{arith}
 use native.Mathlib.Decide.{decLt}
 use lib.Dec.{ltb, eqb}
-use lib.ListN.{length, getD, drop, length-append, length-map, List·getD-map, List·getD-eq-default}
+use lib.ListN.{length, getD, drop, length-append, length-map, List·getD-eq-default}
 use borrow.Author.Tests.{ltb-false, eqb-true, eqb-false, not-false}
-use Rattle.protocol.specs.Format.{Record, planMark, known, rowIn, recordsFrom, recordCount, records, isStep, isSkip, workersIn, stepsIn, Step, sync, exit, own, skipZero, skipNonzero, firstIn, sizeIn, barrierCount, countFrom, upTo, planIn, planOf}
+use Rattle.protocol.specs.Format.{Record, planMark, known, rowIn, recordCount, records, isStep, isSkip, workersIn, stepsIn, Step, sync, exit, own, skipZero, skipNonzero, firstIn, sizeIn, barrierCount, upTo, planIn, planOf}
 use Rattle.protocol.specs.Refusals.{Refusal, Rule, Verdict, accepted, refused, ruled, holds, badMark, badPlan, badLength, outside, lengthRule, planRule, laterRule, recordRule, skipTooFar, skipRule, checkSkips, checkRecords, check}
 use Rattle.protocol.specs.Steps.{stepsOf, stepAt}
 use Rattle.protocol.specs.Turns.{workersOf}
 use Rattle.protocol.specs.WellFormed.{blank, PlanRecord}
-use Rattle.protocol.proofs.Records.{one, or-false, or-left, or-right, and-left, and-right, first-unopened, first-inside}
+use Rattle.protocol.proofs.Bools.{or-false, or-left, or-right, and-left, and-right}
+use Rattle.protocol.proofs.Lists.{length-countFrom, length-recordsFrom, mapped}
+use Rattle.protocol.proofs.Records.{one, first-unopened, first-inside}
 use Rattle.protocol.proofs.Taken.{passes, none-of}
 use Rattle.protocol.proofs.Tabled.{stepOp, skipLength, step-op, step-skip}
 use Rattle.protocol.proofs.Sound.{Sound}
@@ -99,11 +101,6 @@ length-right file e =
     let l = ltb-false 7231 (length file) (or-right (eqb (length file) 0 || not (eqb (length file % 7) 0)) t) in
     record { some = omega arith; most = omega arith; bytes = omega arith }
 
-length-recordsFrom : (file : List ℕ) (k i : ℕ) → length (recordsFrom file k i) ≡ k
-unfolding recordsFrom
-length-recordsFrom file zero i = refl
-length-recordsFrom file (suc k) i = ap suc (length-recordsFrom file k (suc i))
-
 pub length-records : (file : List ℕ) → length (records file) ≡ recordCount file
 unfolding records
 length-records file = length-recordsFrom file (recordCount file) 0
@@ -124,28 +121,6 @@ accepted-file file e =
     }
 
 -- The plan that they hold.
-length-countFrom : (k i : ℕ) → length (countFrom k i) ≡ k
-unfolding countFrom
-length-countFrom zero i = refl
-length-countFrom (suc k) i = ap suc (length-countFrom k (suc i))
-
-getD-countFrom : (k i j d : ℕ) → j < k → getD (countFrom k i) j d ≡ i + j
-unfolding countFrom
-getD-countFrom zero i j d h = absurd (omega arith)
-getD-countFrom (suc k) i zero d h = omega arith
-getD-countFrom (suc k) i (suc j) d h = getD-countFrom k (suc i) j d (omega arith) ∙ omega arith
-
-getD-any : {A : Type 0} (l : List A) (i : ℕ) (d e : A) → i < length l → getD l i d ≡ getD l i e
-getD-any [] i d e h = absurd (omega arith)
-getD-any (x ∷ l) zero d e h = refl
-getD-any (x ∷ l) (suc i) d e h = getD-any l i d e (omega arith)
-
--- what a plan's list has at a number below its length
-pub mapped : {A : Type 0} (f : ℕ → A) (k i : ℕ) (d : A) → i < k → getD (map f (upTo k)) i d ≡ f i
-mapped f k i d h =
-    getD-any (map f (upTo k)) i d (f 0) (let e = length-map (upTo k) f ∙ length-countFrom k 0 in omega arith)
-    ∙ (List·getD-map f (upTo k) i 0 ∙ ap f (getD-countFrom k 0 i 0 h ∙ omega arith))
-
 module _ (rs : List Record) (a : Accepted rs) where
   pub workers-of : workersOf (planIn rs) ≡ workersIn rs
   unfolding planIn

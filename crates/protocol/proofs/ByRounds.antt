@@ -16,6 +16,7 @@ use Rattle.protocol.specs.Rounds.{Entry, State, workerAt, ownMove, arriv
 use Rattle.protocol.specs.Turns.{workersOf, start, allArrived, can, move, closed, closing, ended, noneLeft, behind}
 use Rattle.protocol.specs.RoundRun.{moveLimit, stepNow, runUp, fence, holderStep, token, oneRound, roundsFrom, roundRun}
 use Rattle.protocol.specs.Demands.{occurs}
+use Rattle.protocol.proofs.Bools.{or-false, or-holds}
 use Rattle.protocol.proofs.Confluence.{Machine, Run, here, via, joined, Laws, run-kept, run-falls}
 use Rattle.protocol.proofs.Invariant.{measure, Core, Inv}
 use Rattle.protocol.proofs.OwnMoves.{listed, own-leaves}
@@ -39,14 +40,6 @@ machine plan =
 abbrev mark : State → ℕ → Bool
 mark s w = workerAt s w .arrived
 
-or-true : (b : Bool) → true ≡ (b || true)
-or-true true = refl
-or-true false = refl
-
-or-false : (b : Bool) → b ≡ (b || false)
-or-false true = refl
-or-false false = refl
-
 or-regroup : (a b c : Bool) → ((a || (b || false)) || c) ≡ (a || (b || c))
 or-regroup true b c = refl
 or-regroup false true c = refl
@@ -69,8 +62,8 @@ unfolding member
 arrival-mark w s h v = go (ℕ-discrete v w)
   where
     go : Dec (v ≡ w) → mark (arrival w s) v ≡ (mark s v || (eqb v w || false))
-    go (yes e) = rw (e, eq-eqb w w refl) (ap (λ (x : Worker). x .arrived) (getD-set-same (s .workers) w (arrivedAs true (workerAt s w)) newWorker h) ∙ or-true (mark s w))
-    go (no ne) = rw (ne-eqb v w ne) (ap (λ (x : Worker). x .arrived) (getD-set-other (s .workers) w v (arrivedAs true (workerAt s w)) newWorker ne) ∙ or-false (mark s v))
+    go (yes e) = rw (e, eq-eqb w w refl) (ap (λ (x : Worker). x .arrived) (getD-set-same (s .workers) w (arrivedAs true (workerAt s w)) newWorker h) ∙ sym (or-holds (mark s w) refl))
+    go (no ne) = rw (ne-eqb v w ne) (ap (λ (x : Worker). x .arrived) (getD-set-other (s .workers) w v (arrivedAs true (workerAt s w)) newWorker ne) ∙ sym (or-false (mark s v)))
 
 -- who has not arrived can move
 can-fence : (s : State) (w : ℕ) → 0 < occurs w (s .list) → mark s w ≡ false → can s w ≡ true
@@ -225,7 +218,7 @@ module _ (plan : Plan) (laws : Laws (machine plan) (Inv plan) (workersOf plan)) 
       → ((v : ℕ) → 0 < occurs v ws → 0 < occurs v (s .list)) → ((v : ℕ) → 0 < occurs v ws → mark s v ≡ false) → ((v : ℕ) → occurs v ws ≤ 1)
       → Fenced plan ws s (fence k plan ws s)
   unfolding fence member
-  fenced k [] s i h l a d = record { moves = 0; run = here; list = refl; marks = λ v. or-false (mark s v) }
+  fenced k [] s i h l a d = record { moves = 0; run = here; list = refl; marks = λ v. sym (or-false (mark s v)) }
   fenced k (w ∷ ws) s i h l a d =
       let o : 0 < occurs w (w ∷ ws) = omega (arith, occurs-same w ws) in
       let f = runs-up k w s i h (l w o) (a w o) in
@@ -325,7 +318,7 @@ module _ (plan : Plan) (laws : Laws (machine plan) (Inv plan) (workersOf plan)) 
           arrived-all t (t .list)
           (λ v o.
           let p : member v (s .list) ≡ true = some-member v (s .list) (subst (λ (l : List ℕ). 0 < occurs v l) (f .list) o) in
-          f .marks v ∙ ap (λ (b : Bool). mark s v || b) p ∙ sym (or-true (mark s v)))
+          f .marks v ∙ ap (λ (b : Bool). mark s v || b) p ∙ or-holds (mark s v) refl)
 
   stop : (k : ℕ) (s : State) → s .list ≡ [] → Ends plan s (roundsFrom k plan s)
   stop k s e = subst⁻¹ (Ends plan s) (rounds-empty k plan s e) record { moves = 0; run = here; end = ap noneLeft e }

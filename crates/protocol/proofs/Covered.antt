@@ -14,7 +14,8 @@ use Rattle.protocol.specs.Format.{Record, Row, planMark, rowIn, rowOf, k
 use Rattle.protocol.specs.Refusals.{Refusal, badMark, badPlan, badBarrier, badWorker, badOp, badOperand, tooManySteps, noSize, Verdict, accepted, Rule, holds, refuseIf, ruled, anyOf, outside, planRule, barrierRule, operandsOutside, stepRule, laterRule, recordRule}
 use Rattle.protocol.specs.WellFormed.{blank, recordAt, PlanRecord, BarrierRecord}
 use Rattle.protocol.specs.Conditions.{NoMark, Before, BarrierAmiss, UnknownOp, WorkerAmiss, StepBeyond, OperandOutside, SizeMissing, Test, test, testsOf, recordTests, FirstDue}
-use Rattle.protocol.proofs.Records.{one, or-left, or-right, and-left, and-right, names}
+use Rattle.protocol.proofs.Bools.{or-left, or-right, and-left, and-right}
+use Rattle.protocol.proofs.Records.{one, names}
 use Rattle.protocol.proofs.Taken.{barrier-no-step, none-of}
 use Rattle.protocol.proofs.Accepted.{planTest, plan-record}
 

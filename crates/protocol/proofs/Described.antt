@@ -12,7 +12,8 @@ use borrow.Author.Tests.{ltb-false, leb-false, le-ltb, eqb-true, not-false, eq-e
 use Rattle.protocol.specs.Format.{Record, planMark, isBarrier, isStep, isSkip, workersIn}
 use Rattle.protocol.specs.Refusals.{badMark, accepted, holds, anyOf, planRule, laterRule, recordRule, skipTooFar, skipRule, checkRecords}
 use Rattle.protocol.specs.WellFormed.{blank, recordAt, PlanRecord, BarrierRecord, StepRecord, stepsBehind, FormedRecords}
-use Rattle.protocol.proofs.Records.{one, and-left, and-right, reaches, picks, openedIn, names}
+use Rattle.protocol.proofs.Bools.{and-left, and-right}
+use Rattle.protocol.proofs.Records.{one, reaches, picks, openedIn, names}
 use Rattle.protocol.proofs.Taken.{passes, BarrierTaken, StepTaken, later-taken}
 use Rattle.protocol.proofs.Accepted.{accepts, plan-record, accepted-records}
 use Rattle.protocol.proofs.Covered.{any-there, any-none, known-row, operands-inside}

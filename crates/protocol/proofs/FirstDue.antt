@@ -15,7 +15,8 @@ use Rattle.protocol.specs.Turns.{workersOf}
 use Rattle.protocol.specs.Calls.{Buffers, memoryLength, logLength, reportLength, workLength, turnsLimit, misfit, namesNobody, both, runVerdict}
 use Rattle.protocol.specs.WellFormed.{blank, Fitting}
 use Rattle.protocol.specs.Conditions.{LengthAmiss, SkipBeyond, Test, test, recordTests, skipTests, over, fileTests, runTests, FirstDue}
-use Rattle.protocol.proofs.Records.{one, or-false, or-left, or-right, and-left, and-right}
+use Rattle.protocol.proofs.Bools.{or-false, or-left, or-right, and-left, and-right}
+use Rattle.protocol.proofs.Records.{one}
 use Rattle.protocol.proofs.Taken.{none-of}
 use Rattle.protocol.proofs.Accepted.{length-right, length-records}
 use Rattle.protocol.proofs.Covered.{nothing-due, Covers, covers-none, covers, or-cases, record-covers}

@@ -17,7 +17,8 @@ use Rattle.protocol.specs.Turns.{workersOf}
 use Rattle.protocol.specs.Calls.{Buffers, misfit, turnsLimit, runVerdict}
 use Rattle.protocol.specs.WellFormed.{blank, recordAt, PlanRecord, BarrierRecord, StepRecord, FormedRecords, WellFormed, Runnable}
 use Rattle.protocol.specs.Conditions.{LengthAmiss, NoPlan, BarrierAmiss, UnknownOp, WorkerAmiss, StepBeyond, OperandOutside, SizeMissing, SkipBeyond, Test, recordTests, skipTests, over, fileTests, runTests, FirstDue}
-use Rattle.protocol.proofs.Records.{one, split, stepsIn-append}
+use Rattle.protocol.proofs.Bools.{split}
+use Rattle.protocol.proofs.Records.{one, stepsIn-append}
 use Rattle.protocol.proofs.Accepted.{accepts, length-right, length-records}
 use Rattle.protocol.proofs.Covered.{row-known}
 use Rattle.protocol.proofs.FirstDue.{check-first, run-first, fitting, misfitting}

@@ -1,5 +1,5 @@
 -- The laws that this machine obeys, for any plan and state: what the theorem on machines asks.
-use Prim.Native.Nat.{ℕ, zero, suc, _+_, _*_, _<_}
+use Prim.Native.Nat.{ℕ, _+_, _*_, _<_}
 use native.Mathlib.Omega.{arith}
 use mathlib.Core.Bool.{Bool, true, false, _&&_, _||_}
 use mathlib.Core.Path.{_≡_, refl, sym, ap, _∙_, subst⁻¹}
@@ -13,6 +13,8 @@ use Rattle.protocol.specs.Rounds.{State, workerAt, workerMoved, queueOf,
 use Rattle.protocol.specs.Turns.{workersOf, start, allArrived, can, behind, closing, closed, moveBy, move, ended, noneLeft}
 use Rattle.protocol.specs.RoundRun.{total, moveLimit}
 use Rattle.protocol.specs.Demands.{occurs, Prefix}
+use Rattle.protocol.proofs.Bools.{or-holds}
+use Rattle.protocol.proofs.Lists.{getD-copies}
 use Rattle.protocol.proofs.Sound.{Sound}
 use Rattle.protocol.proofs.Invariant.{sumOf, weight, measure, Sane, Stands, Core, Inv}
 use Rattle.protocol.proofs.Counting.{clash, occurs-empty, occurs-above, occurs-within, member-some}
@@ -32,20 +34,14 @@ pub start-measure : (plan : Plan) (memory : List ℕ) → measure plan (start pl
 unfolding measure start
 start-measure plan memory = omega (arith, weights-at-start (plan .steps))
 
--- every worker, and whoever is none, begins as a new one
-new-at : (n w : ℕ) → getD (replicate n newWorker) w newWorker ≡ newWorker
-new-at zero w = refl
-new-at (suc n) zero = refl
-new-at (suc n) (suc w) = new-at n w
-
 pub start-inv : (plan : Plan) (memory : List ℕ) → Sound plan → Inv plan (start plan memory)
 unfolding start newWorker
 start-inv plan memory sound =
     record {
       core = record {
         size = length-replicate (workersOf plan) newWorker;
-        sane = λ w. rw new-at (new-sane (length (stepsOf plan w)));
-        stands = λ w. rw new-at (new-stands (workersOf plan) w);
+        sane = λ w. rw getD-copies (new-sane (length (stepsOf plan w)));
+        stands = λ w. rw getD-copies (new-stands (workersOf plan) w);
         logged = omega arith;
         spent = omega (arith, start-measure plan memory);
         rounded = omega arith;
@@ -214,10 +210,6 @@ end-stops s w q = rw (nobody (s .list) q)
     nobody [] q = refl
     nobody (x ∷ xs) q = clash q
 
-or-right : (b : Bool) {c : Bool} → c ≡ true → (b || c) ≡ true
-or-right true q = refl
-or-right false q = q
-
 -- all have arrived, or there is one who has not
 late : (s : State) (ws : List ℕ) → allArrived s ws ≡ false → (w : ℕ) × (member w ws ≡ true) × (workerAt s w .arrived ≡ false)
 unfolding allArrived member
@@ -227,7 +219,7 @@ late s (w ∷ ws) q = go (workerAt s w .arrived) refl q (late s ws)
     go : (b : Bool) → workerAt s w .arrived ≡ b → (b && allArrived s ws) ≡ false
         → (allArrived s ws ≡ false → (v : ℕ) × (member v ws ≡ true) × (workerAt s v .arrived ≡ false))
         → (v : ℕ) × ((eqb v w || member v ws) ≡ true) × (workerAt s v .arrived ≡ false)
-    go true a q f = (f q .0, or-right (eqb (f q .0) w) (f q .1), f q .2)
+    go true a q f = (f q .0, or-holds (eqb (f q .0) w) (f q .1), f q .2)
     go false a q f = (w, rw (eq-eqb w w refl), a)
 
 someone : (s : State) → ended s ≡ false → (w : ℕ) × (can s w ≡ true)

@@ -1,5 +1,8 @@
 -- Going by cases over a range of numbers.
 pub mod Each
+-- What everybody needs: Bools and lists.
+pub mod Bools
+pub mod Lists
 -- The plan file: what an accepted one is; then which test decides a verdict, and that accepted means well-formed.
 pub mod Records
 pub mod Taken

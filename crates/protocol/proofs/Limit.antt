@@ -12,7 +12,7 @@ use Rattle.protocol.specs.Format.{Record, isStep, isStepOf, stepOf, step
 use Rattle.protocol.specs.Refusals.{accepted, check}
 use Rattle.protocol.specs.RoundRun.{total, stepCount, moveLimit}
 use Rattle.protocol.specs.WellFormed.{recordAt}
-use Rattle.protocol.proofs.Records.{split}
+use Rattle.protocol.proofs.Bools.{split}
 use Rattle.protocol.proofs.Accepted.{accepted-file, workers-of}
 use Rattle.protocol.proofs.Formed.{is-step, well-formed}
 

@@ -14,7 +14,8 @@ use borrow.Author.Tests.{eq-eqb, ne-eqb, leb-true, leb-false, eqb-true, eqb-fals
 use Rattle.protocol.specs.Format.{Record, Step, sync, exit, rowOf, isBarrier, isStep, isStepOf, workersIn, sizeIn, stepsIn, stepOf, firstIn}
 use Rattle.protocol.specs.Refusals.{anyOf, holds, operandsOutside, laterRule}
 use Rattle.protocol.specs.WellFormed.{blank}
-use Rattle.protocol.proofs.Records.{one, one-step, split, or-false, and-right, topIn, anyOf-one, topIn-kept, topIn-raised, openedIn, names, names-new, sizeIn-other, sizeIn-new, stepsIn-one, first-unopened, first-inside, first-grows, first-one-opened, first-one-unopened}
+use Rattle.protocol.proofs.Bools.{split, or-false, and-right}
+use Rattle.protocol.proofs.Records.{one, one-step, topIn, anyOf-one, topIn-kept, topIn-raised, openedIn, names, names-new, sizeIn-other, sizeIn-new, stepsIn-one, first-unopened, first-inside, first-grows, first-one-opened, first-one-unopened}
 use Rattle.protocol.proofs.Taken.{StepTaken, BarrierTaken, later-taken}
 
 abbrev pub Together : List Record → Type 0

@@ -10,41 +10,13 @@ use lib.ListN.{length, getD}
 use borrow.Author.Tests.{lt-ltb, le-ltb, le-leb, ltb-true, ltb-false, leb-true, leb-false, eqb-true}
 use Rattle.protocol.specs.Format.{Record, Step, isBarrier, isStep, isStepOf, sizeIn, stepsIn, stepOf, firstIn}
 use Rattle.protocol.specs.Refusals.{anyOf}
+use Rattle.protocol.proofs.Bools.{or-assoc, or-false, and-left, or-left, or-right, split, and-right}
 
 abbrev pub one : Record → List Record
 one r = r ∷ []
 
 abbrev pub one-step : Record → List Step
 one-step r = stepOf r ∷ []
-
--- a Bool split, with what it was
-pub split : {A : Type 0} (b : Bool) → (b ≡ true → A) → (b ≡ false → A) → A
-split true t f = t refl
-split false t f = f refl
-
-or-assoc : (a b c : Bool) → a || (b || c) ≡ (a || b) || c
-or-assoc true b c = refl
-or-assoc false b c = refl
-
-pub or-false : (a : Bool) → a || false ≡ a
-or-false true = refl
-or-false false = refl
-
-pub or-left : (a b : Bool) → a || b ≡ false → a ≡ false
-or-left true b e = e
-or-left false b e = refl
-
-pub or-right : (a : Bool) {b : Bool} → a || b ≡ false → b ≡ false
-or-right true e = absurd (true≢false e)
-or-right false e = e
-
-pub and-left : (a b : Bool) → a && b ≡ true → a ≡ true
-and-left true b e = refl
-and-left false b e = e
-
-pub and-right : (a b : Bool) → a && b ≡ true → b ≡ true
-and-right true b e = e
-and-right false b e = absurd (false≢true e)
 
 pub anyOf-one : (t : Record → Bool) (rs : List Record) (r : Record) → anyOf t (rs ++ one r) ≡ anyOf t rs || t r
 unfolding anyOf

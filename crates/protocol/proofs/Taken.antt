@@ -10,7 +10,8 @@ use lib.ListN.{length}
 use borrow.Author.Tests.{ltb-false, leb-false, eqb-true}
 use Rattle.protocol.specs.Format.{Record, rowIn, rowOf, known, isBarrier, isStep, workersIn, stepsIn, barrierCount}
 use Rattle.protocol.specs.Refusals.{Refusal, badPlan, badBarrier, Rule, holds, refuseIf, anyOf, outside, barrierRule, operandsOutside, stepRule, laterRule}
-use Rattle.protocol.proofs.Records.{or-left, or-right, reaches, picks, lowIn, openedIn, names}
+use Rattle.protocol.proofs.Bools.{or-left, or-right}
+use Rattle.protocol.proofs.Records.{reaches, picks, lowIn, openedIn, names}
 
 -- a rule that holds: its test fails, and the next rule holds
 pub passes : (b : Bool) (f : Refusal) (next : Rule) → refuseIf b f next ≡ holds → (b ≡ false) × (next ≡ holds)

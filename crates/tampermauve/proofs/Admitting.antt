@@ -13,7 +13,7 @@ use Rattle.protocol.specs.Format.{planOf, records}
 use Rattle.protocol.specs.Refusals.{Refusal, numberOf, Verdict, accepted, refused, codeOf, check}
 use Rattle.protocol.specs.Turns.{workersOf}
 use Rattle.protocol.specs.Calls.{both, namesNobody, turnsLimit}
-use Rattle.protocol.proofs.Records.{or-false}
+use Rattle.protocol.proofs.Bools.{or-false}
 use Rattle.protocol.proofs.Accepted.{accepted-file, workers-of}
 use Rattle.protocol.proofs.FirstDue.{AsLent, as-lent}
 use Rattle.protocol.proofs.Numbered.{numbered}

@@ -20,7 +20,7 @@ use Rattle.journal.specs.Bytes.{reportOf}
 use Rattle.engine.specs.Moving.{Over}
 use Rattle.engine.specs.declared.state.Played.{Played}
 use Rattle.ending.specs.Ending.{endBy, Ends, Left}
-use Rattle.ending.specs.declared.Counts.{Counts}
+use Rattle.journal.specs.declared.report.Counts.{Counts}
 use Rattle.tampermauve.specs.Run.{lent}
 use Rattle.tampermauve.proofs.Reported.{report-same}
 

@@ -3,9 +3,9 @@ mod admit;
 
 use crate::admit::Lengths;
 use crate::admit::admit;
-use ending::Counts;
 use ending::close_buffers;
 use engine::play::play;
+use journal::report::Counts;
 use plan::answer::code;
 use plan::check::check;
 ghost use mathlib.Core.Path.{_≡_};
