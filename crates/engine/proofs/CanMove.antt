@@ -12,21 +12,12 @@ use lib.Seq.{getD-set-same, getD-set-other}
 use borrow.Author.Tests.{eq-eqb, ne-eqb, eqb-true}
 use Rattle.protocol.specs.Rounds.{State, workerAt, member}
 use Rattle.protocol.specs.Turns.{allArrived, isFirst, can}
+use Rattle.protocol.proofs.Bools.{or-holds}
 use Rattle.protocol.proofs.Counting.{clash}
 use Rattle.protocol.proofs.Fence.{all-arrived}
 use Rattle.queue.proofs.Walk.{length-all}
 use Rattle.token.specs.Token.{raised}
-use Rattle.engine.specs.Shows.{absent}
-
--- tests
-
-or-right : (b : Bool) {c : Bool} → c ≡ true → (b || c) ≡ true
-or-right true e = refl
-or-right false e = e
-
-pub or-false : (b : Bool) {c : Bool} → c ≡ false → (b || c) ≡ b
-or-false true e = refl
-or-false false e = e
+use Rattle.engine.specs.Refines.{awayIn}
 
 pub cond-false : (b : Bool) {c : Bool} → c ≡ false → cond b true c ≡ b
 cond-false true e = refl
@@ -34,17 +25,17 @@ cond-false false e = e
 
 -- who can move
 
-pub all-absent : (s : State) (ws : List ℕ) → allArrived s ws ≡ eqb (absent s ws) 0
-unfolding allArrived absent
-all-absent s [] = refl
-all-absent s (w ∷ ws) = go (workerAt s w .arrived) (all-absent s ws)
+pub all-away : (s : State) (ws : List ℕ) → allArrived s ws ≡ eqb (awayIn s ws) 0
+unfolding allArrived awayIn
+all-away s [] = refl
+all-away s (w ∷ ws) = go (workerAt s w .arrived) (all-away s ws)
   where
-    go : (b : Bool) → allArrived s ws ≡ eqb (absent s ws) 0 → (b && allArrived s ws) ≡ eqb (cond b 0 1 + absent s ws) 0
+    go : (b : Bool) → allArrived s ws ≡ eqb (awayIn s ws) 0 → (b && allArrived s ws) ≡ eqb (cond b 0 1 + awayIn s ws) 0
     go true h = rw zero-add h
-    go false h = sym (ne-eqb (1 + absent s ws) 0 (λ e. omega arith))
+    go false h = sym (ne-eqb (1 + awayIn s ws) 0 (λ e. omega arith))
 
-pub none-absent : (s : State) (ws : List ℕ) → allArrived s ws ≡ true → absent s ws ≡ 0
-none-absent s ws e = eqb-true (absent s ws) 0 (sym (all-absent s ws) ∙ e)
+pub none-away : (s : State) (ws : List ℕ) → allArrived s ws ≡ true → awayIn s ws ≡ 0
+none-away s ws e = eqb-true (awayIn s ws) 0 (sym (all-away s ws) ∙ e)
 
 -- whoever is first is in the list
 first-member : (u : ℕ) (ws : List ℕ) → isFirst u ws ≡ true → member u ws ≡ true
@@ -90,21 +81,21 @@ can-fence s u f = go (member u (s .list)) refl
     go true e = rw (f u e)
 
 -- nobody has arrived: all are away
-pub absent-all : (s : State) (ws : List ℕ) → ((w : ℕ) → member w ws ≡ true → workerAt s w .arrived ≡ false) → absent s ws ≡ length ws
-unfolding absent member
-absent-all s [] f = refl
-absent-all s (w ∷ ws) f =
-    rw (f w (rw (eq-eqb w w refl))) (omega (arith, absent-all s ws (λ u m. f u (or-right (eqb u w) m))))
+pub away-all : (s : State) (ws : List ℕ) → ((w : ℕ) → member w ws ≡ true → workerAt s w .arrived ≡ false) → awayIn s ws ≡ length ws
+unfolding awayIn member
+away-all s [] f = refl
+away-all s (w ∷ ws) f =
+    rw (f w (rw (eq-eqb w w refl))) (omega (arith, away-all s ws (λ u m. f u (or-holds (eqb u w) m))))
 
 -- The list and the arrivals decide.
 module _ (s s′ : State) (same : (w : ℕ) → workerAt s′ w .arrived ≡ workerAt s w .arrived) where
-  pub absent-same : (ws : List ℕ) → absent s′ ws ≡ absent s ws
-  unfolding absent
-  absent-same [] = refl
-  absent-same (w ∷ ws) = rw (same w, absent-same ws)
+  pub away-same : (ws : List ℕ) → awayIn s′ ws ≡ awayIn s ws
+  unfolding awayIn
+  away-same [] = refl
+  away-same (w ∷ ws) = rw (same w, away-same ws)
 
   pub all-same : (ws : List ℕ) → allArrived s′ ws ≡ allArrived s ws
-  all-same ws = all-absent s′ ws ∙ ap (λ (k : ℕ). eqb k 0) (absent-same ws) ∙ sym (all-absent s ws)
+  all-same ws = all-away s′ ws ∙ ap (λ (k : ℕ). eqb k 0) (away-same ws) ∙ sym (all-away s ws)
 
   pub can-same : s′ .list ≡ s .list → (u : ℕ) → can s′ u ≡ can s u
   unfolding can

@@ -4,31 +4,30 @@ use native.Mathlib.Decide.{decLt}
 use native.Mathlib.Omega.{arith}
 use mathlib.Core.Bool.{Bool, true}
 use mathlib.Core.Path.{_≡_, sym, ap, _∙_, subst⁻¹}
-use mathlib.Core.List.{List, [], _∷_}
-use lib.ListN.{length, getD, length-append}
+use mathlib.Core.List.{List, _∷_}
+use lib.ListN.{length}
 use borrow.Author.Tests.{eq-eqb}
-use Rattle.protocol.specs.Format.{Step, sync, Sync, Plan}
-use Rattle.protocol.specs.Steps as steps
+use Rattle.protocol.specs.Format.{workersLimit, Step, sync, Sync, Plan}
 use Rattle.protocol.specs.Steps.{Queue, waiting, stepAt}
-use Rattle.protocol.specs.Rounds.{State, workerAt, queueOf, Ruling, ruleOf, entryOf, apply, syncMove, member}
+use Rattle.protocol.specs.Rounds.{State, workerAt, queueOf, Ruling, ruleOf, apply, syncMove, member}
 use Rattle.protocol.specs.Turns.{workersOf, allArrived, can, behind, closed, moveBy, move}
 use Rattle.protocol.specs.Demands.{occurs}
 use Rattle.protocol.proofs.Sound.{Sound}
 use Rattle.protocol.proofs.Invariant.{Core, Inv}
 use Rattle.protocol.proofs.Counting.{clash, member-some, occurs-same}
-use Rattle.protocol.proofs.Fence.{Can, runsUp, holds, can-view, in-list, all-arrived}
+use Rattle.protocol.proofs.Fence.{Can, runsUp, holds, can-view, all-arrived}
 use Rattle.protocol.proofs.OwnMoves.{Listed, listed}
 use Rattle.protocol.proofs.Rulings.{Lawful, applied-core, applied-arrived}
 use Rattle.protocol.proofs.Rules.{rule-lawful}
-use Rattle.protocol.proofs.Bounds.{bounded, records-bound, log-bound, placed-none}
-use Rattle.worker.specs.declared.Worker.{Worker}
+use Rattle.protocol.proofs.Bounds.{bounded, placed-none}
 use Rattle.queue.specs.List.{listOf, Below}
 use Rattle.rules.specs.Codes.{fateCode}
 use Rattle.rules.specs.Rules.{found}
 use Rattle.rules.proofs.Moving.{queue-coded}
-use Rattle.engine.specs.Shows.{idle, absent, Shows}
-use Rattle.engine.specs.declared.state.Tally.{Tally}
-use Rattle.engine.proofs.CanMove.{all-absent}
+use Rattle.engine.specs.Kept.{Kept}
+use Rattle.engine.specs.Refines.{awayIn, Refines}
+use Rattle.engine.specs.declared.state.Schedule.{Schedule}
+use Rattle.engine.proofs.CanMove.{all-away}
 
 -- who holds the token
 pub record Holder (s : State) (w : ℕ) : Type 0 where
@@ -38,11 +37,11 @@ pub record Holder (s : State) (w : ℕ) : Type 0 where
   pub all : allArrived s (s .list) ≡ true
 
 -- nobody is away: whoever can move holds the token
-pub holder : (s : State) (w : ℕ) → can s w ≡ true → absent s (s .list) ≡ 0 → Holder s w
+pub holder : (s : State) (w : ℕ) → can s w ≡ true → awayIn s (s .list) ≡ 0 → Holder s w
 holder s w able near = go (can-view s w able)
   where
     all : allArrived s (s .list) ≡ true
-    all = all-absent s (s .list) ∙ eq-eqb (absent s (s .list)) 0 near
+    all = all-away s (s .list) ∙ eq-eqb (awayIn s (s .list)) 0 near
 
     go : Can s w → Holder s w
     go (runsUp m a) = clash (sym a ∙ all-arrived s w (s .list) all m)
@@ -93,84 +92,36 @@ module _ (plan : Plan) (s : State) (c : Core plan s) where
   pub waiting-known : Below (workersOf plan) (s .waiting)
   waiting-known w m = known-in w (omega (arith, member-some w (s .waiting) m))
 
-module _ (plan : Plan) (sound : Sound plan) (s : State) (i : Inv plan s) (t : Tally) (workers : List Worker) (on : List ℕ) (mark copied : List Bool)
-    (memory log work : List ℕ) (shows : Shows (workersOf plan) s t workers on mark copied memory log work) where
-  below : (ws ws′ : List ℕ) → ws′ ≡ ws → Below (workersOf plan) ws → Below 8 ws′
+-- What the values show, in a sound plan and a state that obeys the invariant.
+module _ {plan : Plan} {s : State} {t : Schedule} {k : Kept} (sound : Sound plan) (i : Inv plan s) (shows : Refines (workersOf plan) s t k) where
+  below : (ws ws′ : List ℕ) → ws′ ≡ ws → Below (workersOf plan) ws → Below workersLimit ws′
   below ws ws′ e b w m = omega (arith, b w (ap (λ (us : List ℕ). member w us) (sym e) ∙ m), sound .workers)
 
-  pub list-below : Below 8 (listOf (t .lists .list))
-  list-below = below (s .list) _ (shows .lined .list .list) (list-known plan s (i .core))
+  pub list-below : Below workersLimit (listOf (t .lists .list))
+  list-below = below (s .list) _ (shows .lists .list .list) (list-known plan s (i .core))
 
-  pub next-below : Below 8 (listOf (t .lists .next))
-  next-below = below (s .next) _ (shows .lined .next .list) (next-known plan s (i .core))
+  pub waiting-below : Below workersLimit (listOf (t .lists .waiting))
+  waiting-below = below (s .waiting) _ (shows .lists .waiting .list) (waiting-known plan s (i .core))
 
-  pub waiting-below : Below 8 (listOf (t .lists .waiting))
-  waiting-below = below (s .waiting) _ (shows .lined .waiting .list) (waiting-known plan s (i .core))
-
-  pub lists-fit : length (listOf (t .lists .list)) + length (listOf (t .lists .next)) + length (listOf (t .lists .waiting)) ≤ 8
+  pub lists-fit : length (listOf (t .lists .list)) + length (listOf (t .lists .next)) + length (listOf (t .lists .waiting)) ≤ workersLimit
   lists-fit =
       omega (
         arith,
-        ap length (shows .lined .list .list),
-        ap length (shows .lined .next .list),
-        ap length (shows .lined .waiting .list),
+        ap length (shows .lists .list .list),
+        ap length (shows .lists .next .list),
+        ap length (shows .lists .waiting .list),
         bounded plan s sound i .lists,
         sound .workers,
       )
 
-  pub moves-fit : t .moves ≤ 2064
+  pub moves-fit : t .counts .moves ≤ 2064
   moves-fit = omega (arith, shows .moves, bounded plan s sound i .movesFit)
 
-  pub rounds-fit : t .rounds ≤ 2064
+  pub rounds-fit : t .counts .rounds ≤ 2064
   rounds-fit = omega (arith, shows .rounds, bounded plan s sound i .rounds, bounded plan s sound i .movesFit)
 
   -- the queue of a condition or a barrier, by the codes
-  pub queue-listed : (q : Queue) → found on (listOf (t .lists .waiting)) (fateCode (waiting q)) ≡ queueOf s q
+  pub queue-listed : (q : Queue) → found (k .fates) (listOf (t .lists .waiting)) (fateCode (waiting q)) ≡ queueOf s q
   queue-listed q =
-      ap (λ (ws : List ℕ). found on ws (fateCode (waiting q))) (shows .lined .waiting .list)
-      ∙ queue-coded s on q (λ u m. shows .lined .fates u (waiting-known plan s (i .core) u m))
-
-  module _ (w : ℕ) (able : can s w ≡ true) where
-    pub can-listed : Listed plan s w
-    can-listed = listed plan s w (i .core) (member-some w (s .list) (in-list s w (can-view s w able)))
-
-    pub can-known : w < workersOf plan
-    can-known = can-listed .known
-
-    pub can-small : w < 8
-    can-small = omega (arith, can-known, sound .workers)
-
-    pub place-same : getD workers w idle .place ≡ workerAt s w .place
-    place-same = sym (ap (λ (v : steps.Worker). v .place) (shows .bytes .worker w can-known))
-
-    pub place-small : getD workers w idle .place ≤ 128
-    place-small = omega (arith, place-same, can-listed .place, sound .lengths w)
-
-    pub held-same : getD workers w idle .held ≡ workerAt s w .held
-    held-same = sym (ap (λ (v : steps.Worker). v .held) (shows .bytes .worker w can-known))
-
-    pub held-small : getD workers w idle .held ≤ 128
-    held-small = omega (arith, held-same, bounded plan s sound i .held w)
-
-    pub list-some : 0 < length (listOf (t .lists .list))
-    unfolding member
-    list-some = rw (shows .lined .list .list) (some (s .list) (in-list s w (can-view s w able)))
-      where
-        some : (ws : List ℕ) → member w ws ≡ true → 0 < length ws
-        some [] m = clash m
-        some (v ∷ vs) m = omega arith
-
-    module _ (near : t .away ≡ 0) where
-      pub holds-token : Holder s w
-      holds-token = holder s w able (sym (shows .lined .missing) ∙ near)
-
-      pub records-fit : (y : Sync) → stepAt plan w (workerAt s w .place) ≡ sync y → t .records + 1 ≤ 1032
-      unfolding apply
-      records-fit y step =
-          omega (
-            arith,
-            shows .logged .count,
-            length-append (s .log) (entryOf s w y (ruleAt plan s w y .outcome) ∷ []),
-            log-bound plan (applied plan s w y (holds-token .rest)) (hold-core plan s (i .core) w y holds-token step),
-            records-bound plan sound,
-          )
+      ap (λ (ws : List ℕ). found (k .fates) ws (fateCode (waiting q))) (shows .lists .waiting .list)
+      ∙ queue-coded s (k .fates) q (λ u m. shows .lists .fates u (waiting-known plan s (i .core) u m))

@@ -3,8 +3,8 @@ use Prim.Native.Nat.{ℕ}
 use mathlib.Core.Bool.{Bool}
 use mathlib.Core.Path.{_≡_, subst⁻¹}
 use mathlib.Core.List.{List}
-use Rattle.rules.specs.declared.ruling.Bytes.{Bytes}
-use Rattle.engine.specs.Held.{Settled}
+use Rattle.rules.specs.declared.ruling.Uncommitted.{Uncommitted}
+use Rattle.engine.specs.Holding.{BytesSettled}
 
-pub settled-as : {x y : Bytes} {h : ℕ} {m : List ℕ} {c : List Bool} {k m′ : List ℕ} {c′ : List Bool} → x ≡ y → Settled y h m c k m′ c′ → Settled x h m c k m′ c′
-settled-as {x} {y} {h} {m} {c} {k} {m′} {c′} e t = subst⁻¹ (λ (b : Bytes). Settled b h m c k m′ c′) e t
+pub settled-as : {x y : Uncommitted} {h : ℕ} {m : List ℕ} {c : List Bool} {k m′ : List ℕ} {c′ : List Bool} → x ≡ y → BytesSettled y h m c k m′ c′ → BytesSettled x h m c k m′ c′
+settled-as {x} {y} {h} {m} {c} {k} {m′} {c′} e t = subst⁻¹ (λ (b : Uncommitted). BytesSettled b h m c k m′ c′) e t

@@ -1,52 +1,88 @@
--- The turns up to the next one that synchronises: what they take, and what they leave.
+-- A list of turns, and the turns up to the next one that synchronises: what they take, and what they leave.
 use Prim.Native.Nat.{ℕ, _+_, _≤_, _<_}
 use mathlib.Core.Bool.{Bool, true, false}
 use mathlib.Core.Path.{_≡_}
-use mathlib.Core.List.{List}
+use mathlib.Core.List.{List, []}
 use lib.ListN.{length, getD, take}
-use Rattle.protocol.specs.Format.{planOf}
+use Rattle.protocol.specs.Ops.{opLock}
+use Rattle.protocol.specs.Format.{upTo, planOf}
 use Rattle.protocol.specs.Turns.{workersOf}
-use Rattle.protocol.specs.Calls.{playedFrom}
+use Rattle.protocol.specs.Calls.{logLength, turnsLimit, namesNobody, playedFrom}
 use Rattle.plan.specs.declared.decode.Record.{Record}
+use Rattle.pages.specs.Copies.{Sizes}
 use Rattle.moves.specs.Moves.{fetchedAs}
-use Rattle.engine.specs.declared.state.Tally.{Tally}
+use Rattle.queue.specs.List.{Holds}
+use Rattle.token.specs.Token.{raised}
+use Rattle.engine.specs.declared.state.Schedule.{Schedule}
 use Rattle.engine.specs.declared.state.Reached.{Reached}
-use Rattle.engine.specs.Shows.{gathered, Shows}
-use Rattle.engine.specs.Moving.{Playing, Eight}
+use Rattle.engine.specs.declared.state.Played.{Played}
+use Rattle.engine.specs.Kept.{Kept, kept}
+use Rattle.engine.specs.Refines.{Refines}
+use Rattle.engine.specs.Moving.{Laid}
 
--- the values show the state after the first i turns, so many of which have moved, whatever the lists, the fates and the log are
-pub record Turning (file firsts turns : List ℕ) (i made : ℕ) (mark : List Bool) (places held registers : List ℕ) (copied : List Bool) (memory work : List ℕ) : Type 0 where
-  pub n : ℕ
+-- turns that name the workers of an accepted file
+pub record Named (file sizes firsts turns : List ℕ) : Type 0 where
+  pub laid : Laid file sizes firsts
+  pub known : namesNobody (workersOf (planOf file)) turns ≡ false
+  pub short : length turns ≤ turnsLimit
+
+-- the schedule with so many moves
+abbrev pub movesAs : Schedule → ℕ → Schedule
+movesAs t moves =
+    record { lists = t .lists; away = t .away; counts = record { moves = moves; rounds = t .counts .rounds; records = t .counts .records } }
+
+-- the values show the state after the first i turns, so many of which have moved, whatever the schedule, the fates and the log are
+pub record Turning (file firsts turns : List ℕ) (i made : ℕ) (k : List ℕ → List ℕ → Kept) : Type 0 where
   pub sizes : List ℕ
-  pub start : List ℕ
-  pub log₀ : List ℕ
-  pub work₀ : List ℕ
-  pub playing : Playing file n sizes firsts turns start log₀ work₀
+  pub named : Named file sizes firsts turns
   pub within : i ≤ length turns
-  pub eight : Eight places held registers
-  pub tally : Tally
-  pub counted : tally .moves ≡ made
-  pub on : List ℕ
+  pub start : List ℕ
+  pub schedule : Schedule
+  pub counted : schedule .counts .moves ≡ made
+  pub fates : List ℕ
   pub log : List ℕ
-  pub shows : Shows (workersOf (planOf file)) (playedFrom (planOf file) start (take i turns)) tally (gathered places held registers) on mark copied memory log work
-
--- the same with so many moves
-abbrev pub movesAs : Tally → ℕ → Tally
-movesAs t k = record { lists = t .lists; away = t .away; moves = k; rounds = t .rounds; records = t .records }
+  pub refines : Refines (workersOf (planOf file)) (playedFrom (planOf file) start (take i turns)) schedule (k fates log)
 
 -- turn i names a worker that can move, and r is its step, which synchronises
-pub record Stopped (file firsts turns : List ℕ) (i : ℕ) (mark : List Bool) (places : List ℕ) (r : Record) : Type 0 where
-  pub able : getD mark (getD turns i 0) false ≡ true
-  pub fetched : r ≡ fetchedAs file (getD firsts (getD turns i 0) 0) (getD firsts (getD turns i 0 + 1) 0) (getD places (getD turns i 0) 0)
-  pub late : 32 ≤ r .op
+pub record Stopped (file firsts turns : List ℕ) (i : ℕ) (k : Kept) (r : Record) : Type 0 where
+  pub able : getD (k .can) (getD turns i 0) false ≡ true
+  pub fetched : r ≡ fetchedAs file (getD firsts (getD turns i 0) 0) (getD firsts (getD turns i 0 + 1) 0) (getD (k .places) (getD turns i 0) 0)
+  pub late : opLock ≤ r .op
 
 -- the values show the state after the turns up to the one that is reached
-pub record Went (file firsts turns : List ℕ) (from made : ℕ) (mark : List Bool) (places held registers : List ℕ) (copied : List Bool) (memory work : List ℕ)
-    (r : Reached) (places′ registers′ : List ℕ) (copied′ : List Bool) (work′ : List ℕ) : Type 0 where
+pub record Turned (file firsts turns : List ℕ) (from made : ℕ) (k : List ℕ → List ℕ → Kept) (r : Reached) (k′ : List ℕ → List ℕ → Kept) : Type 0 where
   pub forward : from ≤ r .turn
   pub within : r .turn ≤ length turns
-  pub stopped : r .turn < length turns → Stopped file firsts turns (r .turn) mark places′ (r .step)
-  pub eight : Turning file firsts turns from made mark places held registers copied memory work → Eight places′ held registers′
-  pub shows :
-      (h : Turning file firsts turns from made mark places held registers copied memory work)
-      → Shows (workersOf (planOf file)) (playedFrom (planOf file) (h .start) (take (r .turn) turns)) (movesAs (h .tally) (r .moves)) (gathered places′ held registers′) (h .on) mark copied′ memory (h .log) work′
+  pub stopped : r .turn < length turns → (fates log : List ℕ) → Stopped file firsts turns (r .turn) (k′ fates log) (r .step)
+  pub refines :
+      (h : Turning file firsts turns from made k)
+      → Refines (workersOf (planOf file)) (playedFrom (planOf file) (h .start) (take (r .turn) turns)) (movesAs (h .schedule) (r .moves)) (k′ (h .fates) (h .log))
+
+-- the schedule of round 1, and who can move
+pub record Begun (n : ℕ) (can : List Bool) (t : Schedule) (can′ : List Bool) : Type 0 where
+  pub list : Holds (t .lists .list) (upTo n)
+  pub next : Holds (t .lists .next) []
+  pub waiting : Holds (t .lists .waiting) []
+  pub away : t .away ≡ n
+  pub moves : t .counts .moves ≡ 0
+  pub rounds : t .counts .rounds ≡ 0
+  pub records : t .counts .records ≡ 0
+  pub marks : can′ ≡ raised (upTo n) can
+
+-- what a list of turns takes: buffers of their lengths, and turns that name the n workers of an accepted file
+pub record Playing (file : List ℕ) (n : ℕ) (sizes firsts turns memory log work : List ℕ) : Type 0 where
+  pub named : Named file sizes firsts turns
+  pub workers : n ≡ workersOf (planOf file)
+  pub bytes : Sizes memory work
+  pub room : length log ≡ logLength
+
+-- the values at the end show the state after the turns
+pub record Over (file turns start : List ℕ) (p : Played) (memory log work : List ℕ) : Type 0 where
+  pub places : List ℕ
+  pub held : List ℕ
+  pub registers : List ℕ
+  pub can : List Bool
+  pub copied : List Bool
+  pub refines :
+      Refines (workersOf (planOf file)) (playedFrom (planOf file) start turns) (p .schedule)
+      (kept places held registers (p .fates) can copied memory log work)

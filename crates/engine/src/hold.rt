@@ -1,26 +1,31 @@
 // The holder's synchronising step: decided by its rule, then written.
-use crate::state::Moved;
-use crate::state::Tally;
+use crate::state::Schedule;
+use format::fates::AT_BARRIER;
+use format::limits::BARRIER_COUNT;
+use format::limits::WORKERS_LIMIT;
 use journal::log::packed;
+use journal::report::Counts;
 use plan::decode::Record;
 use rules::fates::settle_fates;
 use rules::lists::Lists;
 use rules::lists::moved;
-use rules::ruling::AT_BARRIER;
-use rules::ruling::Bytes;
 use rules::ruling::Ruling;
+use rules::ruling::Uncommitted;
 use rules::ruling::rule;
 use token::turn_over;
+use worker::Worker;
 use writer::append_record;
 ghost use mathlib.Core.Path.{_≡_};
 ghost use Prim.Native.Nat.{_+_, _*_, _≤_, _<_};
 ghost use lib.Seq.{sets};
-ghost use Rattle.protocol.specs.Report.{entryBytes};
+ghost use Rattle.protocol.specs.Format.{workersLimit};
+ghost use Rattle.protocol.specs.Report.{entryLength, entryBytes};
 ghost use Rattle.journal.specs.Bytes.{entryAs};
 ghost use Rattle.writer.specs.Appended.{Fits};
 ghost use Rattle.pages.specs.Copies.{Sizes};
-ghost use Rattle.engine.specs.Held.{Asking, Decided, Settled};
-ghost use Rattle.engine.specs.Moving.{Holding, Held};
+ghost use Rattle.engine.specs.Kept.{kept};
+ghost use Rattle.engine.specs.Holding.{Deciding, Decided, BytesSettled};
+ghost use Rattle.engine.specs.Moving.{Syncing, Synced};
 
 // A synchronising step's ruling, and the lists after it.
 pub struct Decision {
@@ -29,14 +34,21 @@ pub struct Decision {
 }
 
 // Decides the holder h's step.
-fn decide(r: Record, h: u64, held: u64, sizes: &[u8; 8], lists: Lists, on: &[u64; 8]) -> Decision
-    requires { ⌜ Asking r h held lists ⌝ }
-    ensures { λ d. ⌜ Decided r h held (now (sizes .entry)) lists (now (on .entry)) d ⌝ }
+fn decide(
+    r: Record,
+    h: u64,
+    held: u64,
+    sizes: &[u8; BARRIER_COUNT],
+    lists: Lists,
+    fates: &[u64; WORKERS_LIMIT],
+) -> Decision
+    requires { ⌜ Deciding r h held lists ⌝ }
+    ensures { λ d. ⌜ Decided r h held (now (sizes .entry)) lists (now (fates .entry)) d ⌝ }
 {
     let waiting = lists.waiting;
-    let ruling = rule(r.op, r.number, held, sizes, waiting, on);
-    let key = AT_BARRIER + 2 * (r.number as u64);
-    let after = moved(lists, ruling, h, on, key);
+    let ruling = rule(r.op, r.number, held, sizes, waiting, fates);
+    let code = AT_BARRIER + 2 * (r.number as u64);
+    let after = moved(lists, ruling, h, fates, code);
     Decision {
         ruling,
         lists: after,
@@ -44,14 +56,20 @@ fn decide(r: Record, h: u64, held: u64, sizes: &[u8; 8], lists: Lists, on: &[u64
 }
 
 // The holder's copies: kept, committed to shared memory, or lost.
-fn settle_bytes(bytes: Bytes, h: usize, memory: &mut [u8], work: &[u8], copied: &mut [bool; 64])
-    requires { ⌜ Sizes (now memory) (now work) × (h < 8) ⌝ }
-    ensures { λ _. ⌜ Settled bytes h (now (memory .entry)) (now (copied .entry)) (now (work .entry)) (now (memory .exit)) (now (copied .exit)) ⌝ }
+fn settle_bytes(
+    bytes: Uncommitted,
+    h: usize,
+    memory: &mut [u8],
+    work: &[u8],
+    copied: &mut [bool; 64],
+)
+    requires { ⌜ Sizes (now memory) (now work) × (h < workersLimit) ⌝ }
+    ensures { λ _. ⌜ BytesSettled bytes h (now (memory .entry)) (now (copied .entry)) (now (work .entry)) (now (memory .exit)) (now (copied .exit)) ⌝ }
 {
     match bytes {
-        Bytes::Kept => {}
-        Bytes::Committed => pages::commit(memory, work, copied, h),
-        Bytes::Lost => pages::discard(copied, h),
+        Uncommitted::Kept => {}
+        Uncommitted::Committed => pages::commit(memory, work, copied, h),
+        Uncommitted::Lost => pages::discard(copied, h),
     }
 }
 
@@ -64,8 +82,10 @@ fn record_step(
     records: usize,
     log: &mut [u8],
 ) -> usize
-    requires { ⌜ (h < 8) × (r .number ≤ 15) × (rounds < 65535) × Fits (now log) records ⌝ }
-    ensures { λ k. ⌜ (k ≡ records + 1) × (now (log .exit) ≡ sets (now (log .entry)) (8 * records) (entryBytes (entryAs (rounds + 1) h (r .op) (r .number) outcome))) ⌝ }
+    requires { ⌜ (h < workersLimit) × (r .number ≤ 15) × (rounds < 65535) × Fits (now log) records ⌝ }
+    ensures { λ k. ⌜ (k ≡ records + 1)
+        × (now (log .exit)
+        ≡ sets (now (log .entry)) (entryLength * records) (entryBytes (entryAs (rounds + 1) h (r .op) (r .number) outcome))) ⌝ }
 {
     let round = (rounds + 1) as u16;
     let entry = packed(round, h as u8, r.op, r.number as u8, outcome);
@@ -76,43 +96,62 @@ fn record_step(
 pub fn hold(
     r: Record,
     w: usize,
-    held: u64,
-    t: Tally,
-    sizes: &[u8; 8],
-    on: &mut [u64; 8],
-    can: &mut [bool; 8],
+    t: Schedule,
+    sizes: &[u8; BARRIER_COUNT],
+    places: &mut [usize; WORKERS_LIMIT],
+    held: &mut [u64; WORKERS_LIMIT],
+    registers: &[u64; WORKERS_LIMIT],
+    fates: &mut [u64; WORKERS_LIMIT],
+    can: &mut [bool; WORKERS_LIMIT],
     copied: &mut [bool; 64],
     memory: &mut [u8],
     log: &mut [u8],
     work: &[u8],
-) -> Moved
-    requires { ⌜ Holding r w held t (now sizes) (now on) (now can) (now copied) (now memory) (now log) (now work) ⌝ }
-    ensures { λ m. ⌜ Held r w held t (now (sizes .entry)) (now (on .entry)) (now (can .entry)) (now (copied .entry)) (now (memory .entry)) (now (log .entry)) (now (work .entry)) m (now (on .exit)) (now (can .exit)) (now (copied .exit)) (now (memory .exit)) (now (log .exit)) ⌝ }
+) -> Schedule
+    requires { ⌜ (t .away ≡ 0)
+        × Syncing r w t (now sizes)
+        (kept (now places) (now held) (now registers) (now fates) (now can) (now copied) (now memory) (now log) (now work)) ⌝ }
+    ensures { λ t′. ⌜ Synced r w t (now (sizes .entry))
+        (kept (now (places .entry)) (now (held .entry)) (now (registers .entry)) (now (fates .entry)) (now (can .entry))
+        (now (copied .entry)) (now (memory .entry)) (now (log .entry)) (now (work .entry)))
+        t′
+        (kept (now (places .exit)) (now (held .exit)) (now (registers .entry)) (now (fates .exit)) (now (can .exit))
+        (now (copied .exit)) (now (memory .exit)) (now (log .exit)) (now (work .entry))) ⌝ }
 {
+    let count = held[w];
     let lists = t.lists;
-    let d = decide(r, w as u64, held, sizes, lists, on);
+    let counts = t.counts;
+    let d = decide(r, w as u64, count, sizes, lists, fates);
     let ruling = d.ruling;
     let after = d.lists;
     let bytes = ruling.bytes;
-    settle_fates(on, ruling, w);
+    settle_fates(fates, ruling, w);
     settle_bytes(bytes, w, memory, work, copied);
-    let records = record_step(r, w, ruling.outcome, t.rounds, t.records, log);
+    let v = Worker {
+        place: places[w],
+        held: count,
+        registers: registers[w],
+    };
+    let stepped = v.synchronise(ruling.held, ruling.outcome);
+    let v = stepped.worker;
+    places[w] = v.place;
+    held[w] = v.held;
+    let records = record_step(r, w, stepped.outcome, counts.rounds, counts.records, log);
     let list = after.list;
     let next = after.next;
     let waiting = after.waiting;
-    let round = turn_over(list, next, w, t.rounds, can);
+    let round = turn_over(list, next, w, counts.rounds, can);
     let here = round.list;
     let later = round.next;
-    Moved {
-        held: ruling.held,
-        tally: Tally {
-            lists: Lists {
-                list: here,
-                next: later,
-                waiting,
-            },
-            away: round.away,
-            moves: t.moves + 1,
+    Schedule {
+        lists: Lists {
+            list: here,
+            next: later,
+            waiting,
+        },
+        away: round.away,
+        counts: Counts {
+            moves: counts.moves + 1,
             rounds: round.rounds,
             records,
         },

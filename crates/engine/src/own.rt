@@ -1,29 +1,38 @@
 // The turns up to the next one that synchronises.
 use crate::state::Reached;
+use format::limits::WORKERS_LIMIT;
+use format::ops;
 use moves::fetch;
 use moves::own_move;
 use plan::decode::Record;
 use token::passes::pass_over;
 use worker::Worker;
-ghost use Rattle.engine.specs.Turning.{Turning, Went};
+ghost use Rattle.engine.specs.Kept.{keptOwn};
+ghost use Rattle.engine.specs.Turning.{Turning, Turned};
 
 // Plays turns from `from` on, before which so many moves were made, as long as they pass or make an own step.
 pub fn play_own(
     file: &[u8],
-    firsts: &[usize; 9],
+    firsts: &[usize; WORKERS_LIMIT + 1],
     turns: &[u8],
     from: usize,
     made: u64,
-    can: &[bool; 8],
-    places: &mut [usize; 8],
-    held: &[u64; 8],
-    registers: &mut [u64; 8],
+    can: &[bool; WORKERS_LIMIT],
+    places: &mut [usize; WORKERS_LIMIT],
+    held: &[u64; WORKERS_LIMIT],
+    registers: &mut [u64; WORKERS_LIMIT],
     copied: &mut [bool; 64],
     memory: &[u8],
     work: &mut [u8],
 ) -> Reached
-    requires { ⌜ Turning (now file) (now firsts) (now turns) from made (now can) (now places) (now held) (now registers) (now copied) (now memory) (now work) ⌝ }
-    ensures { λ r. ⌜ Went (now (file .entry)) (now (firsts .entry)) (now (turns .entry)) from made (now (can .entry)) (now (places .entry)) (now (held .entry)) (now (registers .entry)) (now (copied .entry)) (now (memory .entry)) (now (work .entry)) r (now (places .exit)) (now (registers .exit)) (now (copied .exit)) (now (work .exit)) ⌝ }
+    requires { ⌜ Turning (now file) (now firsts) (now turns) from made
+        (keptOwn (now places) (now held) (now registers) (now can) (now copied) (now memory) (now work)) ⌝ }
+    ensures { λ r. ⌜ Turned (now (file .entry)) (now (firsts .entry)) (now (turns .entry)) from made
+        (keptOwn (now (places .entry)) (now (held .entry)) (now (registers .entry)) (now (can .entry)) (now (copied .entry))
+        (now (memory .entry)) (now (work .entry)))
+        r
+        (keptOwn (now (places .exit)) (now (held .entry)) (now (registers .exit)) (now (can .entry)) (now (copied .exit))
+        (now (memory .entry)) (now (work .exit))) ⌝ }
 {
     let mut i = from;
     let mut moves = made;
@@ -32,7 +41,7 @@ pub fn play_own(
         if can[w] {
             let place = places[w];
             let r = fetch(file, firsts[w], firsts[w + 1], place);
-            if 32 <= r.op {
+            if ops::LOCK <= r.op {
                 return Reached {
                     turn: i,
                     moves,
@@ -58,7 +67,7 @@ pub fn play_own(
         moves,
         step: Record {
             worker: 0,
-            op: 0,
+            op: ops::PLAN_RECORD,
             register: 0,
             number: 0,
         },

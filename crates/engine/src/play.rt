@@ -1,18 +1,22 @@
 // A list of turns.
 use crate::own::play_own;
 use crate::state::Played;
-use crate::state::Tally;
+use crate::state::Schedule;
 use crate::sync::sync;
+use format::limits::BARRIER_COUNT;
+use format::limits::WORKERS_LIMIT;
+use journal::report::Counts;
 use queue::Queue;
 use rules::lists::Lists;
 use token::raise;
 ghost use Prim.Native.Nat.{_≤_};
-ghost use Rattle.engine.specs.Moving.{Opened, Playing, Over};
+ghost use Rattle.protocol.specs.Format.{workersLimit};
+ghost use Rattle.engine.specs.Turning.{Begun, Playing, Over};
 
 // Round 1 of n workers: all of them are in its list, and all can move.
-fn first_round(n: u64, can: &mut [bool; 8]) -> Tally
-    requires { ⌜ n ≤ 8 ⌝ }
-    ensures { λ t. ⌜ Opened n (now (can .entry)) t (now (can .exit)) ⌝ }
+fn first_round(n: u64, can: &mut [bool; WORKERS_LIMIT]) -> Schedule
+    requires { ⌜ n ≤ workersLimit ⌝ }
+    ensures { λ t. ⌜ Begun n (now (can .entry)) t (now (can .exit)) ⌝ }
 {
     let list = Queue::up_to(n);
     let next = Queue::empty();
@@ -23,12 +27,14 @@ fn first_round(n: u64, can: &mut [bool; 8]) -> Tally
         next,
         waiting,
     };
-    Tally {
+    Schedule {
         lists,
         away: n,
-        moves: 0,
-        rounds: 0,
-        records: 0,
+        counts: Counts {
+            moves: 0,
+            rounds: 0,
+            records: 0,
+        },
     }
 }
 
@@ -36,8 +42,8 @@ fn first_round(n: u64, can: &mut [bool; 8]) -> Tally
 pub fn play(
     file: &[u8],
     n: u8,
-    sizes: &[u8; 8],
-    firsts: &[usize; 9],
+    sizes: &[u8; BARRIER_COUNT],
+    firsts: &[usize; WORKERS_LIMIT + 1],
     turns: &[u8],
     memory: &mut [u8],
     log: &mut [u8],
@@ -46,11 +52,11 @@ pub fn play(
     requires { ⌜ Playing (now file) n (now sizes) (now firsts) (now turns) (now memory) (now log) (now work) ⌝ }
     ensures { λ p. ⌜ Over (now (file .entry)) (now (turns .entry)) (now (memory .entry)) p (now (memory .exit)) (now (log .exit)) (now (work .exit)) ⌝ }
 {
-    let mut places = [0usize; 8];
-    let mut held = [0u64; 8];
-    let mut registers = [0u64; 8];
-    let mut on = [0u64; 8];
-    let mut can = [false; 8];
+    let mut places = [0usize; WORKERS_LIMIT];
+    let mut held = [0u64; WORKERS_LIMIT];
+    let mut registers = [0u64; WORKERS_LIMIT];
+    let mut fates = [0u64; WORKERS_LIMIT];
+    let mut can = [false; WORKERS_LIMIT];
     let mut copied = [false; 64];
     let mut t = first_round(n as u64, &mut can);
     let mut i = 0;
@@ -60,7 +66,7 @@ pub fn play(
             firsts,
             turns,
             i,
-            t.moves,
+            t.counts.moves,
             &can,
             &mut places,
             &held,
@@ -70,7 +76,9 @@ pub fn play(
             work,
         );
         i = own.turn;
-        t.moves = own.moves;
+        let mut counts = t.counts;
+        counts.moves = own.moves;
+        t.counts = counts;
         if i < turns.len() {
             let w = turns[i] as usize;
             let r = own.step;
@@ -81,7 +89,8 @@ pub fn play(
                 sizes,
                 &mut places,
                 &mut held,
-                &mut on,
+                &registers,
+                &mut fates,
                 &mut can,
                 &mut copied,
                 memory,
@@ -92,15 +101,9 @@ pub fn play(
             // After the end every turn passes.
             let list = t.lists.list;
             if list.is_empty() {
-                return Played {
-                    tally: t,
-                    fates: on,
-                };
+                return Played { schedule: t, fates };
             }
         }
     }
-    Played {
-        tally: t,
-        fates: on,
-    }
+    Played { schedule: t, fates }
 }

@@ -1,14 +1,14 @@
-// What the engine keeps beside the workers' records and the lent bytes.
+// What a run keeps beside an entry for each worker and the lent bytes.
+use format::limits::WORKERS_LIMIT;
+use journal::report::Counts;
 use plan::decode::Record;
 use rules::lists::Lists;
 
-// The lists, how many of the round's list are still away from the fence, and the tallies.
-pub struct Tally {
+// The lists, how many of the round's list are still away from the fence, and what is counted.
+pub struct Schedule {
     pub lists: Lists,
     pub away: u64,
-    pub moves: u64,
-    pub rounds: u64,
-    pub records: usize,
+    pub counts: Counts,
 }
 
 // The turn at which a list of turns stands, the moves made up to it, and the step of the worker that it names.
@@ -18,14 +18,8 @@ pub struct Reached {
     pub step: Record,
 }
 
-// The holder's count after its step, and the rest.
-pub struct Moved {
-    pub held: u64,
-    pub tally: Tally,
-}
-
-// What a list of turns leaves beside the bytes: the tallies, and the fates by their codes.
+// What a list of turns leaves beside the bytes: the schedule, and the fates by their codes.
 pub struct Played {
-    pub tally: Tally,
-    pub fates: [u64; 8],
+    pub schedule: Schedule,
+    pub fates: [u64; WORKERS_LIMIT],
 }

@@ -10,8 +10,9 @@ use native.Mathlib.Decide.{decLt}
 use lib.Dec.{ltb, eqb}
 use lib.ListN.{length, getD, List·getD-eq-default}
 use borrow.Author.Tests.{lt-ltb, le-ltb, ltb-false, eq-eqb, eqb-false, not-true, not-false}
+use Rattle.protocol.specs.Ops.{opSet, opLoad, opStore, opAdd, opSubtract, opSkipZero, opSkipNonzero, opLock, opWait, opBarrier, opExit}
 use Rattle.protocol.specs.Format as format
-use Rattle.protocol.specs.Format.{Row, table, rowIn, rowOf, isStep, recordFrom, recordsFrom, recordCount, records, Step, sync, exit, stepOf, stepsIn, sizeIn, firstIn, planOf}
+use Rattle.protocol.specs.Format.{registerCount, stepsLimit, Row, table, rowIn, rowOf, isStep, recordFrom, recordsFrom, recordCount, records, Step, sync, exit, stepOf, stepsIn, sizeIn, firstIn, planOf, barrierCount, recordLength, sizeLimit}
 use Rattle.protocol.specs.Refusals.{accepted, check, operandsOutside, anyOf}
 use Rattle.protocol.specs.Steps.{stepsOf, stepAt}
 use Rattle.protocol.proofs.Bools.{or-left, or-right, and-left}
@@ -24,7 +25,7 @@ use Rattle.plan.specs.declared.decode.Record.{Record}
 use Rattle.moves.specs.Moves.{endBody, fetchedAs, stepOfBody, InRange}
 
 module _ (file : List ℕ) (first end place : ℕ) where
-  pub fetched-step : first + place < end → fetchedAs file first end place ≡ bodyOf (recordFrom file (7 * (first + place)))
+  pub fetched-step : first + place < end → fetchedAs file first end place ≡ bodyOf (recordFrom file (recordLength * (first + place)))
   unfolding fetchedAs
   fetched-step h = rw (lt-ltb (first + place) end h)
 
@@ -42,23 +43,23 @@ step-end = refl
 
 -- what the limits of every row say of its op
 record Ranged (x : Row) : Type 0 where
-  least : 16 ≤ x .op
-  most : x .op ≤ 38
-  apart : x .op < 32 → x .op ≤ 22
-  named : x .op ≤ 22 → x .registers < 4
-  address : 17 ≤ x .op → x .op ≤ 18 → x .most ≤ 2046
-  operand : 19 ≤ x .op → x .op ≤ 20 → x .most < 4
-  skip : 21 ≤ x .op → x .op ≤ 22 → (1 ≤ x .least) × (x .most ≤ 127)
-  object : 32 ≤ x .op → x .most ≤ 15
-  queue : 34 ≤ x .op → x .op ≤ 37 → x .most ≤ 7
-  exit : x .op ≡ 38 → x .most ≡ 0
+  least : opSet ≤ x .op
+  most : x .op ≤ opExit
+  apart : x .op < opLock → x .op ≤ opSkipNonzero
+  named : x .op ≤ opSkipNonzero → x .registers < registerCount
+  address : opLoad ≤ x .op → x .op ≤ opStore → x .most ≤ 2046
+  operand : opAdd ≤ x .op → x .op ≤ opSubtract → x .most < registerCount
+  skip : opSkipZero ≤ x .op → x .op ≤ opSkipNonzero → (1 ≤ x .least) × (x .most < stepsLimit)
+  object : opLock ≤ x .op → x .most ≤ 15
+  queue : opWait ≤ x .op → x .op ≤ opBarrier → x .most < barrierCount
+  exit : x .op ≡ opExit → x .most ≡ 0
 
 tableRanged : Every Ranged table
 tableRanged = search (tt, arith) depth 40 fits 4000
 
 -- a step record within its row's limits
 ranged : (sizes : List ℕ) (r : format.Record) → isStep r ≡ true → operandsOutside (rowOf (r .op)) (r .register) (r .number) ≡ false
-    → (r .op ≡ 37 → r .number ≤ 7 → (1 ≤ getD sizes (r .number) 0) × (getD sizes (r .number) 0 ≤ 8))
+    → (r .op ≡ opBarrier → r .number < barrierCount → (1 ≤ getD sizes (r .number) 0) × (getD sizes (r .number) 0 ≤ sizeLimit))
     → InRange sizes (bodyOf r)
 unfolding operandsOutside
 ranged sizes r step fits sized =
@@ -71,10 +72,10 @@ ranged sizes r step fits sized =
     let number = or-right (ltb (x .registers) (r .register)) inside in
     let low = ltb-false (r .number) (x .least) (or-left (ltb (r .number) (x .least)) (ltb (x .most) (r .number)) number) in
     let high = ltb-false (x .most) (r .number) (or-right (ltb (r .number) (x .least)) number) in
-    let queue : 34 ≤ r .op → r .op ≤ 37 → r .number ≤ 7 = λ l m. let k = h .queue (omega arith) (omega arith) in omega arith in
+    let queue : opWait ≤ r .op → r .op ≤ opBarrier → r .number < barrierCount = λ l m. let k = h .queue (omega arith) (omega arith) in omega arith in
     record {
       kind =
-          elim (decLt (r .op) 32) [
+          elim (decLt (r .op) opLock) [
             | yes l ↦ let m = h .apart (omega arith) in let k = h .least in inl (omega arith)
             | no l ↦ let k = h .most in inr (omega arith)
           ];
@@ -102,15 +103,15 @@ ranged-end sizes =
       size = λ e. absurd (omega arith);
     }
 
-record-from : (file : List ℕ) (k i j : ℕ) → j < k → getD (recordsFrom file k i) j blank ≡ recordFrom file (7 * (i + j))
+record-from : (file : List ℕ) (k i j : ℕ) → j < k → getD (recordsFrom file k i) j blank ≡ recordFrom file (recordLength * (i + j))
 unfolding recordsFrom
 record-from file zero i j h = absurd (omega arith)
-record-from file (suc k) i zero h = ap (λ (n : ℕ). recordFrom file (7 * n)) (omega arith)
-record-from file (suc k) i (suc j) h = record-from file k (suc i) j (omega arith) ∙ ap (λ (n : ℕ). recordFrom file (7 * n)) (omega arith)
+record-from file (suc k) i zero h = ap (λ (n : ℕ). recordFrom file (recordLength * n)) (omega arith)
+record-from file (suc k) i (suc j) h = record-from file k (suc i) j (omega arith) ∙ ap (λ (n : ℕ). recordFrom file (recordLength * n)) (omega arith)
 
-record-at : (file : List ℕ) (i : ℕ) → i < recordCount file → getD (records file) i blank ≡ recordFrom file (7 * i)
+record-at : (file : List ℕ) (i : ℕ) → i < recordCount file → getD (records file) i blank ≡ recordFrom file (recordLength * i)
 unfolding records
-record-at file i h = record-from file (recordCount file) 0 i h ∙ ap (λ (n : ℕ). recordFrom file (7 * n)) (omega arith)
+record-at file i h = record-from file (recordCount file) 0 i h ∙ ap (λ (n : ℕ). recordFrom file (recordLength * n)) (omega arith)
 
 -- An accepted file: the records of worker w are those from `first` to before `end`.
 module _ (file : List ℕ) (ok : check file ≡ accepted) where
@@ -121,7 +122,7 @@ module _ (file : List ℕ) (ok : check file ≡ accepted) where
   a = accepted-file file ok
 
   -- what `fetch` requires
-  pub fetchable : (w : ℕ) → (7 * firstIn rs (suc w) ≤ length file) × (firstIn rs (suc w) ≤ 1033) × (firstIn rs w ≤ firstIn rs (suc w))
+  pub fetchable : (w : ℕ) → (recordLength * firstIn rs (suc w) ≤ length file) × (firstIn rs (suc w) ≤ 1033) × (firstIn rs w ≤ firstIn rs (suc w))
   fetchable w =
       omega (arith, first-inside rs (suc w), length-records file, a .size .bytes, a .size .most, a .records .read .together w)
 
@@ -156,7 +157,7 @@ module _ (file : List ℕ) (ok : check file ≡ accepted) where
       ∙ ap (λ (ss : List Step). getD ss place (sync exit)) (sym (steps-of rs (a .records) w))
 
   -- a barrier that a record names has a size from 1 to 8
-  sized : (b : ℕ) → b ≤ 7 → anyOf (names b) rs ≡ true → (1 ≤ getD (planOf file .sizes) b 0) × (getD (planOf file .sizes) b 0 ≤ 8)
+  sized : (b : ℕ) → b < barrierCount → anyOf (names b) rs ≡ true → (1 ≤ getD (planOf file .sizes) b 0) × (getD (planOf file .sizes) b 0 ≤ sizeLimit)
   sized b h e =
       let s = a .records .read .sized b in
       let some = eqb-false (sizeIn rs b) 0 (not-true _ (sym (s .found) ∙ e)) in
@@ -176,7 +177,7 @@ module _ (file : List ℕ) (ok : check file ≡ accepted) where
             let f = a .records .read .fit i (omega (arith, first-inside rs (suc w))) step in
             subst⁻¹ (λ (b : Record). InRange (planOf file .sizes) b) (fetched-record w place h)
             (ranged (planOf file .sizes) r step (f .inside)
-            (λ e m. sized (r .number) m (not-false _ (sym (ap (λ (b : Bool). b && not (anyOf (names (r .number)) rs)) (eq-eqb (r .op) 37 e)) ∙ f .sized))))
+            (λ e m. sized (r .number) m (not-false _ (sym (ap (λ (b : Bool). b && not (anyOf (names (r .number)) rs)) (eq-eqb (r .op) opBarrier e)) ∙ f .sized))))
         | no h ↦
             subst⁻¹ (λ (b : Record). InRange (planOf file .sizes) b) (fetched-end file (firstIn rs w) (firstIn rs (suc w)) place (omega arith))
             (ranged-end (planOf file .sizes))

@@ -8,7 +8,8 @@ use native.Mathlib.Omega.{arith}
 use lib.Dec.{eqb}
 use lib.ListN.{length}
 use borrow.Author.Tests.{eq-eqb, ne-eqb}
-use Rattle.protocol.specs.Format.{Own, assign, load, store, add, subtract, skipZero, skipNonzero, own}
+use Rattle.protocol.specs.Ops.{opSet, opLoad, opStore, opAdd, opSubtract, opSkipZero, opSkipNonzero, opLock, opExit}
+use Rattle.protocol.specs.Format.{stepsLimit, Own, assign, load, store, add, subtract, skipZero, skipNonzero, own}
 use Rattle.protocol.specs.Pages.{Copies, loadWord}
 use Rattle.protocol.specs.Steps as steps
 use Rattle.protocol.specs.Steps.{Fate, going, ownStep}
@@ -16,26 +17,26 @@ use Rattle.protocol.proofs.OwnMoves.{own-leaves}
 use Rattle.plan.specs.declared.decode.Record.{Record}
 use Rattle.pages.specs.Copies.{copiesIn, WorkerHolds}
 use Rattle.worker.proofs.OwnSteps.{step-own}
-use Rattle.worker.specs.Private.{viewed, ownOf, copiesAfter, Stepped}
+use Rattle.worker.specs.Private.{viewed, ownOf, copiesAfter, OwnStepped}
 use Rattle.worker.specs.declared.Worker.{Worker}
 use Rattle.worker.specs.declared.Moved.{Moved}
 use Rattle.worker.specs.declared.Outcome.{Outcome}
-use Rattle.moves.specs.Moves.{stepOfBody, InRange, OwnReady, copiesLeft, OwnMoved}
+use Rattle.moves.specs.Moves.{stepOfBody, InRange, OwnMoving, copiesLeft, OwnMoved}
 
--- an op below 32 is an own step's, any other a synchronising step's
-pub own-kind : {sizes : List ℕ} {r : Record} → InRange sizes r → r .op < 32 → (16 ≤ r .op) × (r .op ≤ 22)
+-- an op below the first that synchronises is an own step's, any other a synchronising step's
+pub own-kind : {sizes : List ℕ} {r : Record} → InRange sizes r → r .op < opLock → (opSet ≤ r .op) × (r .op ≤ opSkipNonzero)
 own-kind i h = ⊎-elim (λ k. k) (λ k. absurd (omega arith)) (i .kind)
 
-pub sync-kind : {sizes : List ℕ} {r : Record} → InRange sizes r → 32 ≤ r .op → r .op ≤ 38
+pub sync-kind : {sizes : List ℕ} {r : Record} → InRange sizes r → opLock ≤ r .op → r .op ≤ opExit
 sync-kind i h = ⊎-elim (λ k. absurd (omega arith)) (λ k. k .1) (i .kind)
 
-pub step-of-own : (r : Record) → 16 ≤ r .op → r .op ≤ 22 → stepOfBody r ≡ own (ownOf (r .op) (r .register) (r .number))
+pub step-of-own : (r : Record) → opSet ≤ r .op → r .op ≤ opSkipNonzero → stepOfBody r ≡ own (ownOf (r .op) (r .register) (r .number))
 unfolding stepOfBody
 step-of-own r least most =
     step-own (record { mark = 0; worker = r .worker; op = r .op; register = r .register; number = r .number }) least most
 
 -- a record in range and a worker within its steps
-pub own-ready : {sizes : List ℕ} (v : Worker) (r : Record) → InRange sizes r → 16 ≤ r .op → r .op ≤ 22 → v .place ≤ 128 → OwnReady v r
+pub own-ready : {sizes : List ℕ} (v : Worker) (r : Record) → InRange sizes r → opSet ≤ r .op → r .op ≤ opSkipNonzero → v .place ≤ stepsLimit → OwnMoving v r
 own-ready v r i least most place =
     record {
       ready =
@@ -55,51 +56,51 @@ pub kept : (w : ℕ) (copies : Copies) (marks : List Bool) (work : List ℕ) →
 kept w copies marks work e = record { mine = sym e; others = λ v n. refl; size = refl; markSize = refl }
 
 module _ (op : ℕ) (outcome : Outcome) (memory : List ℕ) (copies : Copies) (address : ℕ) where
-  by-op : (b : Bool) → eqb op 18 ≡ b → copiesLeft op outcome memory copies address ≡ cond b (copiesAfter outcome memory copies address) copies
+  by-op : (b : Bool) → eqb op opStore ≡ b → copiesLeft op outcome memory copies address ≡ cond b (copiesAfter outcome memory copies address) copies
   by-op b e = ap (λ (t : Bool). cond t (copiesAfter outcome memory copies address) copies) e
 
-  pub left-store : op ≡ 18 → copiesLeft op outcome memory copies address ≡ copiesAfter outcome memory copies address
-  left-store e = by-op true (eq-eqb op 18 e)
+  pub left-store : op ≡ opStore → copiesLeft op outcome memory copies address ≡ copiesAfter outcome memory copies address
+  left-store e = by-op true (eq-eqb op opStore e)
 
-  pub left-other : (op ≡ 18 → ⊥) → copiesLeft op outcome memory copies address ≡ copies
-  left-other n = by-op false (ne-eqb op 18 n)
+  pub left-other : (op ≡ opStore → ⊥) → copiesLeft op outcome memory copies address ≡ copies
+  left-other n = by-op false (ne-eqb op opStore n)
 
 pick : (P : Own → Type 0) (b : Bool) {x y : Own} → P x → P y → P (cond b x y)
 pick P true p q = p
 pick P false p q = q
 
 -- an own step that is no store leaves the copies
-own-copies : (memory : List ℕ) (op register number : ℕ) (v : steps.Worker) → eqb op 18 ≡ false → ownStep memory (ownOf op register number) v .copies ≡ v .copies
+own-copies : (memory : List ℕ) (op register number : ℕ) (v : steps.Worker) → eqb op opStore ≡ false → ownStep memory (ownOf op register number) v .copies ≡ v .copies
 unfolding ownOf ownStep
 own-copies memory op register number v e =
-    pick P (eqb op 17) {x = load register number} refl
+    pick P (eqb op opLoad) {x = load register number} refl
     (subst⁻¹ (λ (b : Bool). P (cond b (store register number) rest)) e
-    (pick P (eqb op 19) {x = add register number} refl
-    (pick P (eqb op 20) {x = subtract register number} refl
-    (pick P (eqb op 21) {x = skipZero register number} refl
-    (pick P (eqb op 22) {x = skipNonzero register number} {y = assign register number} refl refl)))))
+    (pick P (eqb op opAdd) {x = add register number} refl
+    (pick P (eqb op opSubtract) {x = subtract register number} refl
+    (pick P (eqb op opSkipZero) {x = skipZero register number} refl
+    (pick P (eqb op opSkipNonzero) {x = skipNonzero register number} {y = assign register number} refl refl)))))
   where
     P : Own → Type 0
     P o = ownStep memory o v .copies ≡ v .copies
 
     rest : Own
     rest =
-        cond (eqb op 19) (add register number)
-        (cond (eqb op 20) (subtract register number)
-        (cond (eqb op 21) (skipZero register number)
-        (cond (eqb op 22) (skipNonzero register number) (assign register number))))
+        cond (eqb op opAdd) (add register number)
+        (cond (eqb op opSubtract) (subtract register number)
+        (cond (eqb op opSkipZero) (skipZero register number)
+        (cond (eqb op opSkipNonzero) (skipNonzero register number) (assign register number))))
 
 -- the parts of an own step make the whole
 pub own-moved :
     (v : Worker) (r : Record) (w : ℕ) (memory : List ℕ) (marks : List Bool) (work : List ℕ) (marks′ : List Bool) (work′ : List ℕ) (read : ℕ) (m : Moved)
     → length marks ≡ 64
-    → (r .op ≡ 17 → read ≡ loadWord memory (copiesIn marks work w) (r .number))
-    → Stepped v (r .op) (r .register) (r .number) read m
+    → (r .op ≡ opLoad → read ≡ loadWord memory (copiesIn marks work w) (r .number))
+    → OwnStepped v (r .op) (r .register) (r .number) read m
     → WorkerHolds w (copiesLeft (r .op) (m .outcome) memory (copiesIn marks work w) (r .number)) marks work marks′ work′
     → OwnMoved v r w memory marks work marks′ work′ (m .worker)
 own-moved v r w memory marks work marks′ work′ read m eight loads stepped holds =
     record {
-      worker = λ arrived fate. step arrived fate ∙ ap (λ (cs : Copies). viewed (m .worker) arrived cs fate) (same (eqb (r .op) 18) refl ∙ sym (holds .mine));
+      worker = λ arrived fate. step arrived fate ∙ ap (λ (cs : Copies). viewed (m .worker) arrived cs fate) (same (eqb (r .op) opStore) refl ∙ sym (holds .mine));
       others = holds .others;
       size = holds .size;
       markSize = holds .markSize ∙ eight;
@@ -118,7 +119,7 @@ own-moved v r w memory marks work marks′ work′ read m eight loads stepped ho
     step : (arrived : Bool) (fate : Fate) → ownStep memory o (viewed v arrived copies fate) ≡ viewed (m .worker) arrived after fate
     step arrived fate = stepped .step memory arrived copies fate loads
 
-    same : (b : Bool) → eqb (r .op) 18 ≡ b → after ≡ copiesLeft (r .op) (m .outcome) memory copies (r .number)
+    same : (b : Bool) → eqb (r .op) opStore ≡ b → after ≡ copiesLeft (r .op) (m .outcome) memory copies (r .number)
     same true e = sym (ap (λ (t : Bool). cond t after copies) e)
     same false e =
         sym (ap (λ (u : steps.Worker). u .copies) (step false going))

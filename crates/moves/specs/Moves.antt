@@ -6,24 +6,25 @@ use mathlib.Core.Path.{_≡_}
 use mathlib.Core.List.{List}
 use lib.Dec.{eqb, ltb}
 use lib.ListN.{length, getD}
-use Rattle.protocol.specs.Format.{recordFrom, Step, stepOf}
+use Rattle.protocol.specs.Ops.{opSet, opLoad, opStore, opAdd, opSubtract, opSkipZero, opSkipNonzero, opLock, opWait, opBarrier, opExit}
+use Rattle.protocol.specs.Format.{recordLength, registerCount, stepsLimit, barrierCount, sizeLimit, recordFrom, Step, stepOf}
 use Rattle.protocol.specs.Steps.{Fate, ownStep}
 use Rattle.protocol.specs.Pages.{Copies, loadWord}
 use Rattle.plan.specs.Answer.{bodyOf}
 use Rattle.plan.specs.declared.decode.Record.{Record}
 use Rattle.pages.specs.Copies.{copiesIn}
-use Rattle.worker.specs.Private.{viewed, ownOf, copiesAfter, Ready}
+use Rattle.worker.specs.Private.{viewed, ownOf, copiesAfter, OwnStepping}
 use Rattle.worker.specs.declared.Worker.{Worker}
 use Rattle.worker.specs.declared.Outcome.{Outcome}
 
 -- "Reaching the end of the steps acts as op 38."
 abbrev pub endBody : Record
-endBody = record { worker = 0; op = 38; register = 0; number = 0 }
+endBody = record { worker = 0; op = opExit; register = 0; number = 0 }
 
 -- the record at a place of the worker whose steps are the records from `first` to before `end`
 unfoldable pub fetchedAs : List ℕ → ℕ → ℕ → ℕ → Record
 fetchedAs file first end place =
-    cond (ltb (first + place) end) (bodyOf (recordFrom file (7 * (first + place)))) endBody
+    cond (ltb (first + place) end) (bodyOf (recordFrom file (recordLength * (first + place)))) endBody
 
 -- the step of a record without its mark
 unfoldable pub stepOfBody : Record → Step
@@ -31,28 +32,28 @@ stepOfBody r = stepOf (record { mark = 0; worker = r .worker; op = r .op; regist
 
 -- what the record of a step is like, by the table's ranges; `sizes` has the size of each barrier
 pub record InRange (sizes : List ℕ) (r : Record) : Type 0 where
-  pub kind : ((16 ≤ r .op) × (r .op ≤ 22)) ⊎ ((32 ≤ r .op) × (r .op ≤ 38))
-  pub named : r .op ≤ 22 → r .register < 4
-  pub address : 17 ≤ r .op → r .op ≤ 18 → r .number ≤ 2046
-  pub operand : 19 ≤ r .op → r .op ≤ 20 → r .number < 4
-  pub skip : 21 ≤ r .op → r .op ≤ 22 → (1 ≤ r .number) × (r .number ≤ 127)
-  pub object : 32 ≤ r .op → r .number ≤ 15
-  pub queue : 34 ≤ r .op → r .op ≤ 37 → r .number ≤ 7
-  pub exit : r .op ≡ 38 → r .number ≡ 0
-  pub size : r .op ≡ 37 → (1 ≤ getD sizes (r .number) 0) × (getD sizes (r .number) 0 ≤ 8)
+  pub kind : ((opSet ≤ r .op) × (r .op ≤ opSkipNonzero)) ⊎ ((opLock ≤ r .op) × (r .op ≤ opExit))
+  pub named : r .op ≤ opSkipNonzero → r .register < registerCount
+  pub address : opLoad ≤ r .op → r .op ≤ opStore → r .number ≤ 2046
+  pub operand : opAdd ≤ r .op → r .op ≤ opSubtract → r .number < registerCount
+  pub skip : opSkipZero ≤ r .op → r .op ≤ opSkipNonzero → (1 ≤ r .number) × (r .number < stepsLimit)
+  pub object : opLock ≤ r .op → r .number ≤ 15
+  pub queue : opWait ≤ r .op → r .op ≤ opBarrier → r .number < barrierCount
+  pub exit : r .op ≡ opExit → r .number ≡ 0
+  pub size : r .op ≡ opBarrier → (1 ≤ getD sizes (r .number) 0) × (getD sizes (r .number) 0 ≤ sizeLimit)
 
 -- what an own step takes
-pub record OwnReady (v : Worker) (r : Record) : Type 0 where
-  pub ready : Ready v (r .op) (r .register) (r .number)
-  pub address : 17 ≤ r .op → r .op ≤ 18 → r .number ≤ 2046
+pub record OwnMoving (v : Worker) (r : Record) : Type 0 where
+  pub ready : OwnStepping v (r .op) (r .register) (r .number)
+  pub address : opLoad ≤ r .op → r .op ≤ opStore → r .number ≤ 2046
 
--- what a step reads of its address: a load, op 17, the number there, any other step 0
+-- what a step reads of its address: a load the number there, any other step 0
 abbrev pub readBy : ℕ → List ℕ → Copies → ℕ → ℕ
-readBy op memory copies address = cond (eqb op 17) (loadWord memory copies address) 0
+readBy op memory copies address = cond (eqb op opLoad) (loadWord memory copies address) 0
 
--- the copies after an own step: only a store, op 18, changes them
+-- the copies after an own step: only a store changes them
 abbrev pub copiesLeft : ℕ → Outcome → List ℕ → Copies → ℕ → Copies
-copiesLeft op outcome memory copies address = cond (eqb op 18) (copiesAfter outcome memory copies address) copies
+copiesLeft op outcome memory copies address = cond (eqb op opStore) (copiesAfter outcome memory copies address) copies
 
 -- Worker w has made the definition's step, and every other worker has the copies that it had.
 pub record OwnMoved (v : Worker) (r : Record) (w : ℕ) (memory : List ℕ) (marks : List Bool) (work : List ℕ) (marks′ : List Bool) (work′ : List ℕ) (v′ : Worker) : Type 0 where

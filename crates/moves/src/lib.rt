@@ -1,29 +1,32 @@
 // A worker's next step, and its own steps on the lent bytes.
+use format::limits::RECORD_LENGTH;
+use format::ops;
 use pages::load;
 use pages::store;
 use plan::decode::Record;
-use plan::decode::WIDTH;
 use plan::decode::body;
 use worker::Outcome;
 use worker::Worker;
 ghost use mathlib.Core.Path.{_≡_};
 ghost use Prim.Native.Nat.{_*_, _<_, _≤_};
 ghost use lib.ListN.{length};
+ghost use Rattle.protocol.specs.Ops.{opLoad, opStore};
+ghost use Rattle.protocol.specs.Format.{recordLength, stepsLimit};
 ghost use Rattle.pages.specs.Copies.{Sizes, copiesIn, WorkerHolds};
-ghost use Rattle.moves.specs.Moves.{fetchedAs, readBy, OwnReady, copiesLeft, OwnMoved};
+ghost use Rattle.moves.specs.Moves.{fetchedAs, readBy, OwnMoving, copiesLeft, OwnMoved};
 
 // The record of the step at a worker's place, whose steps are the records from `first` to before `end`.
 pub fn fetch(file: &[u8], first: usize, end: usize, place: usize) -> Record
-    requires { ⌜ (7 * end ≤ length (now file)) × (end ≤ 1033) × (first ≤ end) × (place ≤ 128) ⌝ }
+    requires { ⌜ (recordLength * end ≤ length (now file)) × (end ≤ 1033) × (first ≤ end) × (place ≤ stepsLimit) ⌝ }
     ensures { λ r. ⌜ r ≡ fetchedAs (now (file .entry)) first end place ⌝ }
 {
     let at = first + place;
     if at < end {
-        return body(file, WIDTH * at);
+        return body(file, RECORD_LENGTH * at);
     }
     Record {
         worker: 0,
-        op: 38,
+        op: ops::EXIT,
         register: 0,
         number: 0,
     }
@@ -31,10 +34,10 @@ pub fn fetch(file: &[u8], first: usize, end: usize, place: usize) -> Record
 
 // What a load reads; 0 for any other step.
 fn loaded(r: Record, w: usize, memory: &[u8], work: &[u8], copied: &[bool; 64]) -> u16
-    requires { ⌜ Sizes (now memory) (now work) × (w < 8) × (r .op ≡ 17 → r .number ≤ 2046) ⌝ }
+    requires { ⌜ Sizes (now memory) (now work) × (w < 8) × (r .op ≡ opLoad → r .number ≤ 2046) ⌝ }
     ensures { λ l. ⌜ l ≡ readBy (r .op) (now (memory .entry)) (copiesIn (now (copied .entry)) (now (work .entry)) w) (r .number) ⌝ }
 {
-    if r.op != 17 {
+    if r.op != ops::LOAD {
         return 0;
     }
     load(memory, work, copied, w, r.number as usize)
@@ -49,10 +52,10 @@ fn keep(
     work: &mut [u8],
     copied: &mut [bool; 64],
 )
-    requires { ⌜ Sizes (now memory) (now work) × (length (now copied) ≡ 64) × (w < 8) × (r .op ≡ 18 → r .number ≤ 2046) ⌝ }
+    requires { ⌜ Sizes (now memory) (now work) × (length (now copied) ≡ 64) × (w < 8) × (r .op ≡ opStore → r .number ≤ 2046) ⌝ }
     ensures { λ _. ⌜ WorkerHolds w (copiesLeft (r .op) outcome (now (memory .entry)) (copiesIn (now (copied .entry)) (now (work .entry)) w) (r .number)) (now (copied .entry)) (now (work .entry)) (now (copied .exit)) (now (work .exit)) ⌝ }
 {
-    if r.op != 18 {
+    if r.op != ops::STORE {
         return;
     }
     let Outcome::Stores(value) = outcome else {
@@ -61,7 +64,7 @@ fn keep(
     store(memory, work, copied, w, r.number as usize, value);
 }
 
-// One own step, ops 16 to 22.
+// One own step.
 pub fn own_move(
     v: Worker,
     r: Record,
@@ -70,7 +73,7 @@ pub fn own_move(
     work: &mut [u8],
     copied: &mut [bool; 64],
 ) -> Worker
-    requires { ⌜ Sizes (now memory) (now work) × (length (now copied) ≡ 64) × (w < 8) × OwnReady v r ⌝ }
+    requires { ⌜ Sizes (now memory) (now work) × (length (now copied) ≡ 64) × (w < 8) × OwnMoving v r ⌝ }
     ensures { λ v′. ⌜ OwnMoved v r w (now (memory .entry)) (now (copied .entry)) (now (work .entry)) (now (copied .exit)) (now (work .exit)) v′ ⌝ }
 {
     let read = loaded(r, w, memory, work, copied);

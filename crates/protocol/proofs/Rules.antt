@@ -8,7 +8,7 @@ use lib.Dec.{eqb, ltb}
 use lib.ListN.{length, getD}
 use Rattle.protocol.specs.Format.{Sync, lock, unlock, wait, signal, broadcast, barrier, exit, sync, Plan}
 use Rattle.protocol.specs.Steps.{Queue, onCondition, atBarrier, Fate, going, exited, failed, waiting, stepsOf, stepAt}
-use Rattle.protocol.specs.Rounds.{State, workerAt, waitsOn, keep, queueOf, Bytes, committed, lost, Goes, keeps, gives, leaves, ruling, failure, givesAtZero, commitsAtZero, lockRule, unlockRule, waitRule, signalRule, barrierRule, exitRule, ruleOf, fateAfter, hasArrived}
+use Rattle.protocol.specs.Rounds.{State, workerAt, waitsOn, keep, queueOf, Uncommitted, committed, lost, Goes, keeps, gives, leaves, ruling, failure, givesAtZero, commitsAtZero, lockRule, unlockRule, waitRule, signalRule, barrierRule, exitRule, ruleOf, fateAfter, hasArrived}
 use Rattle.protocol.specs.Demands.{occurs}
 use Rattle.protocol.proofs.Invariant.{runs, gone, Core}
 use Rattle.protocol.proofs.Counting.{clash, occurs-empty, occurs-first, occurs-kept, occurs-dropped}
@@ -58,7 +58,7 @@ queue-arrived plan s q w c l =
 
 module _ (plan : Plan) (s : State) (h : ℕ) (c : Core plan s) (l : Listed plan s h) where
   -- a rule that moves nobody but the holder
-  quiet : (b : Bytes) (k : ℕ) (g : Goes) (o : ℕ) → k ≤ workerAt s h .place + 1 → k ≤ length (stepsOf plan h)
+  quiet : (b : Uncommitted) (k : ℕ) (g : Goes) (o : ℕ) → k ≤ workerAt s h .place + 1 → k ≤ length (stepsOf plan h)
       → workerAt s h .place + 1 ≤ length (stepsOf plan h) + gone (fateAfter g) → Leaving g → Lawful plan s h (ruling b k g [] [] o)
   quiet b k g o p q t lv =
       record {

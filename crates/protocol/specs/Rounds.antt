@@ -72,8 +72,8 @@ unfoldable pub queueOf : State → Queue → List ℕ
 queueOf s q = keep (λ w. waitsOn q (workerAt s w .fate)) (s .waiting)
 
 -- A rule is data: what becomes of the holder's copies, where the holder goes, and whom the step moves.
-pub data Bytes : Type 0 where
-  kept committed lost : Bytes
+pub data Uncommitted : Type 0 where
+  kept committed lost : Uncommitted
 
 -- "When it gives up the token it joins the tail of the next round's list, unless the rule says it leaves."
 pub data Goes : Type 0 where
@@ -81,7 +81,7 @@ pub data Goes : Type 0 where
   leaves : Fate → Goes
 
 pub record Ruling : Type 0 where
-  pub bytes : Bytes
+  pub bytes : Uncommitted
   pub held : ℕ
   pub goes : Goes
   -- who "goes directly behind the holder in this round's list"
@@ -90,7 +90,7 @@ pub record Ruling : Type 0 where
   pub joins : List ℕ
   pub outcome : ℕ
 
-abbrev pub ruling : Bytes → ℕ → Goes → List ℕ → List ℕ → ℕ → Ruling
+abbrev pub ruling : Uncommitted → ℕ → Goes → List ℕ → List ℕ → ℕ → Ruling
 ruling b h g ws js o = record { bytes = b; held = h; goes = g; wakes = ws; joins = js; outcome = o }
 
 -- Outcomes that name neither a worker nor a count: "barrier, 0 if it queued", "a failure 254", "the woken worker or 255 ..; wait and exit 255".
@@ -111,7 +111,7 @@ failure held = ruling lost held (leaves failed) [] [] outcomeFailed
 abbrev pub givesAtZero : ℕ → Goes
 givesAtZero held = cond (eqb held 0) gives keeps
 
-abbrev pub commitsAtZero : ℕ → Bytes
+abbrev pub commitsAtZero : ℕ → Uncommitted
 commitsAtZero held = cond (eqb held 0) committed kept
 
 -- "Lock: with count 0, commit. Count rises by one; the holder keeps the token and runs on."
@@ -163,10 +163,10 @@ abbrev pub operandOf : Sync → ℕ
 operandOf y = elim y [ lock k ↦ k | unlock k ↦ k | wait c ↦ c | signal c ↦ c | broadcast c ↦ c | barrier b ↦ b | exit ↦ 0 ]
 
 -- The holder after its step. A commit drops its copies, and so does a failure.
-abbrev pub memoryAfter : Bytes → Copies → List ℕ → List ℕ
+abbrev pub memoryAfter : Uncommitted → Copies → List ℕ → List ℕ
 memoryAfter b copies memory = elim b [ kept ↦ memory | committed ↦ commit copies memory | lost ↦ memory ]
 
-abbrev pub copiesAfter : Bytes → Copies → Copies
+abbrev pub copiesAfter : Uncommitted → Copies → Copies
 copiesAfter b copies = elim b [ kept ↦ copies | committed ↦ noCopies | lost ↦ noCopies ]
 
 abbrev pub fateAfter : Goes → Fate

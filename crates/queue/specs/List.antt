@@ -5,6 +5,7 @@ use mathlib.Core.Path.{_≡_}
 use mathlib.Core.List.{List, [], _∷_}
 use lib.Dec.{eqb}
 use lib.ListN.{getD, set}
+use Rattle.protocol.specs.Format.{workersLimit}
 use Rattle.protocol.specs.Rounds.{member}
 use Rattle.queue.specs.declared.Queue.{Queue}
 
@@ -20,7 +21,7 @@ listOf q = digitsOf (q .len) (q .digits)
 pub record Good (q : Queue) : Type 0 where
   pub unit : q .unit ≡ 16 ^ q .len
   pub digits : q .digits < 16 ^ q .len
-  pub short : q .len ≤ 8
+  pub short : q .len ≤ workersLimit
 
 -- what each function ensures: a good queue of just these workers
 pub record Holds (q : Queue) (workers : List ℕ) : Type 0 where
@@ -33,7 +34,7 @@ Below n workers = (w : ℕ) → member w workers ≡ true → w < n
 
 -- whether a worker's entry is the key, or is not
 abbrev pub matches : Bool → List ℕ → ℕ → ℕ → Bool
-matches wanted on key w = cond wanted (eqb (getD on w 0) key) (not (eqb (getD on w 0) key))
+matches wanted entries entry w = cond wanted (eqb (getD entries w 0) entry) (not (eqb (getD entries w 0) entry))
 
 -- entries, where each of these workers has x
 abbrev pub setAll : {A : Type 0} → A → List ℕ → List A → List A

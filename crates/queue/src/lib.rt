@@ -1,11 +1,12 @@
 // An ordered list of at most eight worker numbers, each below 16, in three numbers. Callers know it by its list alone.
+use format::limits::WORKERS_LIMIT;
 ghost use Prim.Native.Nat.{_+_, _≤_, _<_};
 ghost use mathlib.Core.Bool.{true, false, not};
 ghost use mathlib.Core.Path.{_≡_};
 ghost use mathlib.Core.List.{[], _∷_, _++_};
 ghost use lib.Dec.{eqb};
 ghost use lib.ListN.{length, getD, drop};
-ghost use Rattle.protocol.specs.Format.{upTo};
+ghost use Rattle.protocol.specs.Format.{workersLimit, upTo};
 ghost use Rattle.protocol.specs.Rounds.{keep, without};
 ghost use Rattle.protocol.specs.Turns.{noneLeft};
 ghost use Rattle.queue.specs.List.{listOf, Good, Holds, Below, matches};
@@ -71,7 +72,7 @@ impl Queue {
     }
 
     pub fn append(self, behind: Queue) -> Queue
-        requires { ⌜ Good self × Good behind × (length (listOf self) + length (listOf behind) ≤ 8) ⌝ }
+        requires { ⌜ Good self × Good behind × (length (listOf self) + length (listOf behind) ≤ workersLimit) ⌝ }
         ensures { λ r. ⌜ Holds r (listOf self ++ listOf behind) ⌝ }
     {
         Queue {
@@ -82,14 +83,14 @@ impl Queue {
     }
 
     pub fn push(self, w: u64) -> Queue
-        requires { ⌜ Good self × (length (listOf self) < 8) × (w < 16) ⌝ }
+        requires { ⌜ Good self × (length (listOf self) < workersLimit) × (w < 16) ⌝ }
         ensures { λ r. ⌜ Holds r (listOf self ++ (w ∷ [])) ⌝ }
     {
         self.append(Queue::one(w))
     }
 
     pub fn cons(self, w: u64) -> Queue
-        requires { ⌜ Good self × (length (listOf self) < 8) × (w < 16) ⌝ }
+        requires { ⌜ Good self × (length (listOf self) < workersLimit) × (w < 16) ⌝ }
         ensures { λ r. ⌜ Holds r (w ∷ listOf self) ⌝ }
     {
         Queue::one(w).append(self)
@@ -97,7 +98,7 @@ impl Queue {
 
     // Workers 0 to n - 1.
     pub fn up_to(n: u64) -> Queue
-        requires { ⌜ n ≤ 8 ⌝ }
+        requires { ⌜ n ≤ workersLimit ⌝ }
         ensures { λ r. ⌜ Holds r (upTo n) ⌝ }
     {
         let mut q = Queue::empty();
@@ -127,15 +128,15 @@ impl Queue {
     }
 
     // Those whose entry is the key, where that is wanted, or those whose entry is not.
-    fn matching(self, on: &[u64; 8], key: u64, wanted: bool) -> Queue
-        requires { ⌜ Good self × Below 8 (listOf self) ⌝ }
-        ensures { λ r. ⌜ Holds r (keep (matches wanted (now (on .entry)) key) (listOf self)) ⌝ }
+    fn matching(self, entries: &[u64; WORKERS_LIMIT], entry: u64, wanted: bool) -> Queue
+        requires { ⌜ Good self × Below workersLimit (listOf self) ⌝ }
+        ensures { λ r. ⌜ Holds r (keep (matches wanted (now (entries .entry)) entry) (listOf self)) ⌝ }
     {
         let mut left = self;
         let mut kept = Queue::empty();
         while !left.is_empty() {
             let v = left.first();
-            if (on[v as usize] == key) == wanted {
+            if (entries[v as usize] == entry) == wanted {
                 kept = kept.push(v);
             }
             left = left.rest();
@@ -143,17 +144,17 @@ impl Queue {
         kept
     }
 
-    pub fn select(self, on: &[u64; 8], key: u64) -> Queue
-        requires { ⌜ Good self × Below 8 (listOf self) ⌝ }
-        ensures { λ r. ⌜ Holds r (keep (λ w. eqb (getD (now (on .entry)) w 0) key) (listOf self)) ⌝ }
+    pub fn select(self, entries: &[u64; WORKERS_LIMIT], entry: u64) -> Queue
+        requires { ⌜ Good self × Below workersLimit (listOf self) ⌝ }
+        ensures { λ r. ⌜ Holds r (keep (λ w. eqb (getD (now (entries .entry)) w 0) entry) (listOf self)) ⌝ }
     {
-        self.matching(on, key, true)
+        self.matching(entries, entry, true)
     }
 
-    pub fn reject(self, on: &[u64; 8], key: u64) -> Queue
-        requires { ⌜ Good self × Below 8 (listOf self) ⌝ }
-        ensures { λ r. ⌜ Holds r (keep (λ w. not (eqb (getD (now (on .entry)) w 0) key)) (listOf self)) ⌝ }
+    pub fn reject(self, entries: &[u64; WORKERS_LIMIT], entry: u64) -> Queue
+        requires { ⌜ Good self × Below workersLimit (listOf self) ⌝ }
+        ensures { λ r. ⌜ Holds r (keep (λ w. not (eqb (getD (now (entries .entry)) w 0) entry)) (listOf self)) ⌝ }
     {
-        self.matching(on, key, false)
+        self.matching(entries, entry, false)
     }
 }

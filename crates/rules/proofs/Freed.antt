@@ -15,25 +15,25 @@ use Rattle.queue.proofs.Walk.{length-all}
 use Rattle.rules.specs.declared.ruling.Ruling.{Ruling}
 use Rattle.rules.specs.Codes.{codeAfter}
 use Rattle.rules.specs.Rules.{wokenOf, joinedOf}
-use Rattle.rules.specs.Fates.{Settled}
+use Rattle.rules.specs.Fates.{FatesSettled}
 
 -- 0 stands past the end too
-zero-at : (on : List ℕ) (w : ℕ) → getD (set on w 0) w 0 ≡ 0
+zero-at : (fates : List ℕ) (w : ℕ) → getD (set fates w 0) w 0 ≡ 0
 zero-at [] w = refl
 zero-at (k ∷ ks) zero = refl
 zero-at (k ∷ ks) (suc w) = zero-at ks w
 
-getD-zero : (on : List ℕ) (v w : ℕ) → getD (set on v 0) w 0 ≡ cond (eqb w v) 0 (getD on w 0)
-getD-zero on v w = go (eqb w v) refl
+getD-zero : (fates : List ℕ) (v w : ℕ) → getD (set fates v 0) w 0 ≡ cond (eqb w v) 0 (getD fates w 0)
+getD-zero fates v w = go (eqb w v) refl
   where
-    go : (b : Bool) → eqb w v ≡ b → getD (set on v 0) w 0 ≡ cond b 0 (getD on w 0)
-    go true e = rw (eqb-true w v e) (zero-at on v)
-    go false e = getD-set-other on v w 0 0 (eqb-false w v e)
+    go : (b : Bool) → eqb w v ≡ b → getD (set fates v 0) w 0 ≡ cond b 0 (getD fates w 0)
+    go true e = rw (eqb-true w v e) (zero-at fates v)
+    go false e = getD-set-other fates v w 0 0 (eqb-false w v e)
 
-getD-freed : (ws on : List ℕ) (w : ℕ) → getD (setAll 0 ws on) w 0 ≡ cond (member w ws) 0 (getD on w 0)
+getD-freed : (ws fates : List ℕ) (w : ℕ) → getD (setAll 0 ws fates) w 0 ≡ cond (member w ws) 0 (getD fates w 0)
 unfolding member
-getD-freed [] on w = refl
-getD-freed (v ∷ vs) on w = getD-freed vs (set on v 0) w ∙ rw getD-zero (go (eqb w v) (member w vs) (getD on w 0))
+getD-freed [] fates w = refl
+getD-freed (v ∷ vs) fates w = getD-freed vs (set fates v 0) w ∙ rw getD-zero (go (eqb w v) (member w vs) (getD fates w 0))
   where
     go : (a b : Bool) (x : ℕ) → cond b 0 (cond a 0 x) ≡ cond (a || b) 0 x
     go true true x = refl
@@ -48,7 +48,7 @@ leaving r = wokenOf (r .wakes) (listOf (r .queued)) ++ joinedOf (r .joins) (list
 pub settled :
     (before : List ℕ) (r : Ruling) (h : ℕ) (freed : List ℕ) (code : ℕ)
     → length before ≡ 8 → h < 8 → freed ≡ setAll 0 (leaving r) before → code ≡ codeAfter (r .goes)
-    → Settled before r h (set freed h code)
+    → FatesSettled before r h (set freed h code)
 settled before r h freed code long fits same e =
     let left : length freed ≡ 8 = ap length same ∙ length-all 0 (leaving r) before ∙ long in
     record { size = simp length-set left; code = λ w. go w (eqb w h) refl left }

@@ -68,12 +68,12 @@ below-keep n t ws b w e = b w (first (member w ws) (t w) (sym (member-keep t ws 
     first false b e = e
 
 -- those whom a barrier finds: they are too few for it if all who wait there are, and else they are all of them
-module _ {on : List ℕ} {waiting : Queue} {key size : ℕ} {q : Queue} (m : Met on waiting key size q) where
+module _ {fates : List ℕ} {waiting : Queue} {code size : ℕ} {q : Queue} (m : Met fates waiting code size q) where
   abbrev there : List ℕ
-  there = found on (listOf waiting) key
+  there = found fates (listOf waiting) code
 
   short : length there ≤ length (listOf waiting)
-  short = length-keep (λ w. eqb (getD on w 0) key) (listOf waiting)
+  short = length-keep (λ w. eqb (getD fates w 0) code) (listOf waiting)
 
   pub met-few : length (listOf q) + 1 < size → ltb (length there) (size - 1) ≡ true
   met-few h = lt-ltb (length there) (size - 1) (elim (decLt (length (listOf waiting) + 1) size) [
@@ -126,10 +126,10 @@ holds-more ws js h = rw (append-nil js) h
 
 -- the queue of a condition or a barrier, by the fates' codes
 pub queue-coded :
-    (s : State) (on : List ℕ) (q : steps.Queue)
-    → ((w : ℕ) → member w (s .waiting) ≡ true → getD on w 0 ≡ fateCode (workerAt s w .fate))
-    → found on (s .waiting) (fateCode (waiting q)) ≡ queueOf s q
+    (s : State) (fates : List ℕ) (q : steps.Queue)
+    → ((w : ℕ) → member w (s .waiting) ≡ true → getD fates w 0 ≡ fateCode (workerAt s w .fate))
+    → found fates (s .waiting) (fateCode (waiting q)) ≡ queueOf s q
 unfolding queueOf
-queue-coded s on q coded =
-    keep-same (λ w. eqb (getD on w 0) (fateCode (waiting q))) (λ w. waitsOn q (workerAt s w .fate)) (s .waiting)
+queue-coded s fates q coded =
+    keep-same (λ w. eqb (getD fates w 0) (fateCode (waiting q))) (λ w. waitsOn q (workerAt s w .fate)) (s .waiting)
     (λ w m. ap (λ (k : ℕ). eqb k (fateCode (waiting q))) (coded w m) ∙ code-same (workerAt s w .fate) q)

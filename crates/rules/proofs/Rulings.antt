@@ -14,16 +14,16 @@ use Rattle.protocol.specs.Rounds.{member, committed, keeps, givesAtZero, lockRu
 use Rattle.protocol.specs.Turns.{noneLeft}
 use Rattle.queue.specs.declared.Queue.{Queue}
 use Rattle.queue.specs.List.{listOf, Good, Holds, Below}
-use Rattle.rules.specs.declared.ruling.Bytes.{Bytes}
+use Rattle.rules.specs.declared.ruling.Uncommitted.{Uncommitted}
 use Rattle.rules.specs.declared.ruling.Goes.{Goes}
 use Rattle.rules.specs.declared.ruling.Ruling.{Ruling}
-use Rattle.rules.specs.Codes.{conditionCode, barrierCode, bytesOf, goesOf, syncOf}
-use Rattle.rules.specs.Rules.{found, Coded, AtZero, Commits, Sound, Means, Ruled}
+use Rattle.rules.specs.Codes.{conditionCode, barrierCode, uncommittedOf, goesOf, syncOf}
+use Rattle.rules.specs.Rules.{found, Coded, AtZero, Commits, Coherent, Means, Ruled}
 
 -- a ruling that wakes nobody
-pub asleep : {held number : ℕ} {waiting : Queue} {on : List ℕ} {r : Ruling} → r .wakes ≡ false → Coded (r .goes) → r .held ≤ held + 1
+pub asleep : {held number : ℕ} {waiting : Queue} {fates : List ℕ} {r : Ruling} → r .wakes ≡ false → Coded (r .goes) → r .held ≤ held + 1
     → Good (r .queued) → Below 8 (listOf (r .queued)) → length (listOf (r .queued)) ≤ length (listOf waiting)
-    → (r .joins ≡ true → listOf (r .queued) ≡ found on (listOf waiting) (barrierCode number)) → Sound held number waiting on r
+    → (r .joins ≡ true → listOf (r .queued) ≡ found fates (listOf waiting) (barrierCode number)) → Coherent held number waiting fates r
 asleep w e h good below few all =
     record {
       coded = e;
@@ -37,21 +37,21 @@ asleep w e h good below few all =
     }
 
 -- a ruling that moves nobody but the holder
-pub calm : {held number : ℕ} {waiting : Queue} {on : List ℕ} {r : Ruling} → r .wakes ≡ false → r .joins ≡ false → Coded (r .goes) → r .held ≤ held + 1
-    → Holds (r .queued) [] → Sound held number waiting on r
+pub calm : {held number : ℕ} {waiting : Queue} {fates : List ℕ} {r : Ruling} → r .wakes ≡ false → r .joins ≡ false → Coded (r .goes) → r .held ≤ held + 1
+    → Holds (r .queued) [] → Coherent held number waiting fates r
 unfolding member
-calm {held} {number} {waiting} {on} {r} w j e h none =
+calm {held} {number} {waiting} {fates} {r} w j e h none =
     asleep w e h (none .good) (rw (none .list) (λ v m. absurd (let n : _≡_ {A = ℕ} 0 1 = cc in omega arith))) (rw (none .list) (omega arith))
     (λ y. let z : true ≡ false = sym y ∙ j in cc)
 
 -- a lock's and an unlock's ruling by the numbers in it, however the code works them out
-pub locks : (held rises outcome : ℕ) {count : ℕ} {bytes : Bytes} → Commits count bytes → count ≡ held → rises ≡ held + 1 → outcome ≡ held + 1
-    → rounds.ruling (bytesOf bytes) rises keeps [] [] outcome ≡ lockRule held
+pub locks : (held rises outcome : ℕ) {count : ℕ} {bytes : Uncommitted} → Commits count bytes → count ≡ held → rises ≡ held + 1 → outcome ≡ held + 1
+    → rounds.ruling (uncommittedOf bytes) rises keeps [] [] outcome ≡ lockRule held
 locks held rises outcome b e h o = rw (b .same, e, h, o)
 
-pub unlocks : (held left outcome : ℕ) {count given : ℕ} {bytes : Bytes} {goes : Goes} → (held ≡ 0 → ⊥) → Commits count bytes → AtZero given goes
+pub unlocks : (held left outcome : ℕ) {count given : ℕ} {bytes : Uncommitted} {goes : Goes} → (held ≡ 0 → ⊥) → Commits count bytes → AtZero given goes
     → count ≡ held - 1 → given ≡ held - 1 → left ≡ held - 1 → outcome ≡ held - 1
-    → rounds.ruling (bytesOf bytes) left (goesOf goes) [] [] outcome ≡ unlockRule held
+    → rounds.ruling (uncommittedOf bytes) left (goesOf goes) [] [] outcome ≡ unlockRule held
 unlocks held left outcome some b g e f h o = rw (b .same, g .same, e, f, h, o, ne-eqb held 0 some)
 
 pub wakes-none : (qs : List ℕ) (held : ℕ) → noneLeft qs ≡ true → signalRule qs held ≡ rounds.ruling committed held (givesAtZero held) [] [] 255
@@ -65,20 +65,20 @@ wakes-first [] held e = cc
 wakes-first (w ∷ ws) held e = refl
 
 -- the rule by its op
-module _ {op number held : ℕ} {sizes : List ℕ} {waiting : Queue} {on : List ℕ} {r : Ruling} where
-  pub by-lock : op ≡ 32 → Means held number waiting on r (lockRule held) → Ruled op number held sizes waiting on r
+module _ {op number held : ℕ} {sizes : List ℕ} {waiting : Queue} {fates : List ℕ} {r : Ruling} where
+  pub by-lock : op ≡ 32 → Means held number waiting fates r (lockRule held) → Ruled op number held sizes waiting fates r
   unfolding syncOf ruleOf
   by-lock e m = record { same = λ plan queue met at fit. rw e (m .same); sound = m .sound }
 
-  pub by-unlock : op ≡ 33 → Means held number waiting on r (unlockRule held) → Ruled op number held sizes waiting on r
+  pub by-unlock : op ≡ 33 → Means held number waiting fates r (unlockRule held) → Ruled op number held sizes waiting fates r
   unfolding syncOf ruleOf
   by-unlock e m = record { same = λ plan queue met at fit. rw e (m .same); sound = m .sound }
 
-  pub by-wait : op ≡ 34 → Means held number waiting on r (waitRule number held) → Ruled op number held sizes waiting on r
+  pub by-wait : op ≡ 34 → Means held number waiting fates r (waitRule number held) → Ruled op number held sizes waiting fates r
   unfolding syncOf ruleOf
   by-wait e m = record { same = λ plan queue met at fit. rw e (m .same); sound = m .sound }
 
-  pub by-signal : 35 ≤ op → op ≤ 36 → Means held number waiting on r (signalRule (found on (listOf waiting) (conditionCode number)) held) → Ruled op number held sizes waiting on r
+  pub by-signal : 35 ≤ op → op ≤ 36 → Means held number waiting fates r (signalRule (found fates (listOf waiting) (conditionCode number)) held) → Ruled op number held sizes waiting fates r
   unfolding syncOf ruleOf
   by-signal low high m =
       record {
@@ -89,10 +89,10 @@ module _ {op number held : ℕ} {sizes : List ℕ} {waiting : Queue} {on : List 
         sound = m .sound;
       }
 
-  pub by-barrier : op ≡ 37 → Means held number waiting on r (barrierRule number (getD sizes number 0) (found on (listOf waiting) (barrierCode number)) held) → Ruled op number held sizes waiting on r
+  pub by-barrier : op ≡ 37 → Means held number waiting fates r (barrierRule number (getD sizes number 0) (found fates (listOf waiting) (barrierCode number)) held) → Ruled op number held sizes waiting fates r
   unfolding syncOf ruleOf
   by-barrier e m = record { same = λ plan queue met at fit. rw (e, ← at e, fit e) (m .same); sound = m .sound }
 
-  pub by-exit : op ≡ 38 → Means held number waiting on r (exitRule held) → Ruled op number held sizes waiting on r
+  pub by-exit : op ≡ 38 → Means held number waiting fates r (exitRule held) → Ruled op number held sizes waiting fates r
   unfolding syncOf ruleOf
   by-exit e m = record { same = λ plan queue met at fit. rw e (m .same); sound = m .sound }

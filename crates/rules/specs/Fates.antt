@@ -5,6 +5,7 @@ use mathlib.Core.Path.{_≡_}
 use mathlib.Core.List.{List, _++_}
 use lib.Dec.{eqb}
 use lib.ListN.{length, getD}
+use Rattle.protocol.specs.Format.{workersLimit}
 use Rattle.protocol.specs.Rounds.{member}
 use Rattle.queue.specs.declared.Queue.{Queue}
 use Rattle.queue.specs.List.{listOf, Good, Below}
@@ -14,13 +15,13 @@ use Rattle.rules.specs.Rules.{wokenOf, joinedOf}
 
 pub record Freeing (wakes joins : Bool) (queued : Queue) : Type 0 where
   pub good : Good queued
-  pub below : Below 8 (listOf queued)
+  pub below : Below workersLimit (listOf queued)
   pub some : wakes ≡ true → 0 < length (listOf queued)
   pub apart : wakes ≡ true → joins ≡ false
 
 -- the holder has its new fate, those whom the step moves are going, and the others stay as they were
-pub record Settled (before : List ℕ) (r : Ruling) (h : ℕ) (after : List ℕ) : Type 0 where
-  pub size : length after ≡ 8
+pub record FatesSettled (before : List ℕ) (r : Ruling) (h : ℕ) (after : List ℕ) : Type 0 where
+  pub size : length after ≡ workersLimit
   pub code :
       (w : ℕ)
       → getD after w 0

@@ -4,6 +4,7 @@ use mathlib.Core.Bool.{Bool, true, false}
 use mathlib.Core.Path.{_≡_}
 use mathlib.Core.List.{List, _++_}
 use lib.ListN.{length, drop}
+use Rattle.protocol.specs.Format.{workersLimit}
 use Rattle.protocol.specs.Rounds as rounds
 use Rattle.protocol.specs.Rounds.{staysIn, joinsNext, joinsWaiting, without}
 use Rattle.queue.specs.declared.Queue.{Queue}
@@ -13,31 +14,31 @@ use Rattle.rules.specs.declared.ruling.Ruling.{Ruling}
 use Rattle.rules.specs.Rules.{found}
 
 -- the list of a round, whose first is the holder, with room for a woken worker
-pub record Turning (list : Queue) (wakes : Bool) (queued : Queue) (h : ℕ) : Type 0 where
+pub record Relisting (list : Queue) (wakes : Bool) (queued : Queue) (h : ℕ) : Type 0 where
   pub good : Good list
   pub holder : h < 16
   pub held : 0 < length (listOf list)
-  pub fits : length (listOf list) + length (listOf queued) ≤ 8
+  pub fits : length (listOf list) + length (listOf queued) ≤ workersLimit
   pub some : wakes ≡ true → 0 < length (listOf queued)
 
 -- where the queued workers join the next list, they are those who wait with the key as their fate's code
-pub record Leaving (waiting : Queue) (wakes joins : Bool) (queued : Queue) (on : List ℕ) (key : ℕ) : Type 0 where
+pub record Parting (waiting : Queue) (wakes joins : Bool) (queued : Queue) (fates : List ℕ) (code : ℕ) : Type 0 where
   pub good : Good waiting
-  pub below : Below 8 (listOf waiting)
-  pub queue : joins ≡ true → listOf queued ≡ found on (listOf waiting) key
+  pub below : Below workersLimit (listOf waiting)
+  pub queue : joins ≡ true → listOf queued ≡ found fates (listOf waiting) code
   pub some : wakes ≡ true → 0 < length (listOf queued)
   pub apart : wakes ≡ true → joins ≡ false
 
 -- the three lists have at most eight workers between them
-pub record Room (lists : Lists) (r : Ruling) (h : ℕ) (on : List ℕ) (key : ℕ) : Type 0 where
+pub record ListsMoving (lists : Lists) (r : Ruling) (h : ℕ) (fates : List ℕ) (code : ℕ) : Type 0 where
   pub list : Good (lists .list)
   pub next : Good (lists .next)
   pub good : Good (r .queued)
   pub few : length (listOf (r .queued)) ≤ length (listOf (lists .waiting))
-  pub holder : h < 8
+  pub holder : h < workersLimit
   pub held : 0 < length (listOf (lists .list))
-  pub total : length (listOf (lists .list)) + length (listOf (lists .next)) + length (listOf (lists .waiting)) ≤ 8
-  pub leaving : Leaving (lists .waiting) (r .wakes) (r .joins) (r .queued) on key
+  pub total : length (listOf (lists .list)) + length (listOf (lists .next)) + length (listOf (lists .waiting)) ≤ workersLimit
+  pub leaving : Parting (lists .waiting) (r .wakes) (r .joins) (r .queued) fates code
 
 -- the lists after a ruling, as `apply` has them
 pub record ListsMoved (before : Lists) (r : rounds.Ruling) (h : ℕ) (after : Lists) : Type 0 where

@@ -5,17 +5,18 @@ use mathlib.Core.Path.{_≡_}
 use mathlib.Core.List.{List, []}
 use lib.Dec.{eqb}
 use lib.ListN.{length, getD, take}
-use Rattle.protocol.specs.Format.{Plan}
+use Rattle.protocol.specs.Ops.{opLock, opSignal, opBroadcast, opBarrier, opExit}
+use Rattle.protocol.specs.Format.{workersLimit, barrierCount, stepsLimit, Plan}
 use Rattle.protocol.specs.Steps as steps
 use Rattle.protocol.specs.Steps.{onCondition, atBarrier}
 use Rattle.protocol.specs.Rounds as rounds
 use Rattle.protocol.specs.Rounds.{keep, fateAfter, commitsAtZero, givesAtZero, ruleOf}
 use Rattle.queue.specs.declared.Queue.{Queue}
 use Rattle.queue.specs.List.{listOf, Good, Below}
-use Rattle.rules.specs.declared.ruling.Bytes.{Bytes}
+use Rattle.rules.specs.declared.ruling.Uncommitted.{Uncommitted}
 use Rattle.rules.specs.declared.ruling.Goes.{Goes}
 use Rattle.rules.specs.declared.ruling.Ruling.{Ruling}
-use Rattle.rules.specs.Codes.{fateCode, conditionCode, barrierCode, bytesOf, goesOf, codeAfter, syncOf}
+use Rattle.rules.specs.Codes.{fateCode, conditionCode, barrierCode, uncommittedOf, goesOf, codeAfter, syncOf}
 
 -- whom a step wakes, of the queued workers
 abbrev pub wokenOf : Bool → List ℕ → List ℕ
@@ -27,11 +28,11 @@ joinedOf joins queued = cond joins queued []
 
 abbrev pub rulingOf : Ruling → rounds.Ruling
 rulingOf r =
-    rounds.ruling (bytesOf (r .bytes)) (r .held) (goesOf (r .goes)) (wokenOf (r .wakes) (listOf (r .queued))) (joinedOf (r .joins) (listOf (r .queued))) (r .outcome)
+    rounds.ruling (uncommittedOf (r .bytes)) (r .held) (goesOf (r .goes)) (wokenOf (r .wakes) (listOf (r .queued))) (joinedOf (r .joins) (listOf (r .queued))) (r .outcome)
 
 -- those of a list whose fate's code is the key
 abbrev pub found : List ℕ → List ℕ → ℕ → List ℕ
-found on waiting key = keep (λ w. eqb (getD on w 0) key) waiting
+found fates waiting code = keep (λ w. eqb (getD fates w 0) code) waiting
 
 -- the code of the holder's fate is that of the fate
 abbrev pub Coded : Goes → Type 0
@@ -43,46 +44,46 @@ pub record AtZero (held : ℕ) (goes : Goes) : Type 0 where
   pub coded : Coded goes
 
 -- what becomes of the copies of a holder that commits with count 0
-pub record Commits (held : ℕ) (bytes : Bytes) : Type 0 where
-  pub same : bytesOf bytes ≡ commitsAtZero held
+pub record Commits (held : ℕ) (bytes : Uncommitted) : Type 0 where
+  pub same : uncommittedOf bytes ≡ commitsAtZero held
 
 -- what holds of every ruling, by a holder of so many locks at a step with this number, where these wait
-pub record Sound (held number : ℕ) (waiting : Queue) (on : List ℕ) (r : Ruling) : Type 0 where
+pub record Coherent (held number : ℕ) (waiting : Queue) (fates : List ℕ) (r : Ruling) : Type 0 where
   pub coded : Coded (r .goes)
   pub some : r .wakes ≡ true → 0 < length (listOf (r .queued))
   pub apart : r .wakes ≡ true → r .joins ≡ false
   pub rises : r .held ≤ held + 1
   pub good : Good (r .queued)
-  pub below : Below 8 (listOf (r .queued))
+  pub below : Below workersLimit (listOf (r .queued))
   pub few : length (listOf (r .queued)) ≤ length (listOf waiting)
-  pub all : r .joins ≡ true → listOf (r .queued) ≡ found on (listOf waiting) (barrierCode number)
+  pub all : r .joins ≡ true → listOf (r .queued) ≡ found fates (listOf waiting) (barrierCode number)
 
 -- a ruling of the code is that of the definitions
-pub record Means (held number : ℕ) (waiting : Queue) (on : List ℕ) (r : Ruling) (is : rounds.Ruling) : Type 0 where
+pub record Means (held number : ℕ) (waiting : Queue) (fates : List ℕ) (r : Ruling) (is : rounds.Ruling) : Type 0 where
   pub same : rulingOf r ≡ is
-  pub sound : Sound held number waiting on r
+  pub sound : Coherent held number waiting fates r
 
 -- those who wait with the key as their fate's code, asked for by a barrier of this size: nobody, where all who wait are too few for it
-pub record Met (on : List ℕ) (waiting : Queue) (key size : ℕ) (q : Queue) : Type 0 where
+pub record Met (fates : List ℕ) (waiting : Queue) (code size : ℕ) (q : Queue) : Type 0 where
   pub good : Good q
   pub early : length (listOf waiting) + 1 < size → listOf q ≡ []
-  pub late : size ≤ length (listOf waiting) + 1 → listOf q ≡ found on (listOf waiting) key
+  pub late : size ≤ length (listOf waiting) + 1 → listOf q ≡ found fates (listOf waiting) code
 
-pub record Asks (op number held : ℕ) (waiting : Queue) : Type 0 where
-  pub least : 32 ≤ op
-  pub most : op ≤ 38
+pub record Asking (op number held : ℕ) (waiting : Queue) : Type 0 where
+  pub least : opLock ≤ op
+  pub most : op ≤ opExit
   pub operand : number ≤ 15
-  pub barrier : op ≡ 37 → number < 8
-  pub count : held ≤ 128
+  pub barrier : op ≡ opBarrier → number < barrierCount
+  pub count : held ≤ stepsLimit
   pub good : Good waiting
-  pub below : Below 8 (listOf waiting)
+  pub below : Below workersLimit (listOf waiting)
 
 -- the rule of the definitions, in every plan with these sizes and every state with these queues
-pub record Ruled (op number held : ℕ) (sizes : List ℕ) (waiting : Queue) (on : List ℕ) (r : Ruling) : Type 0 where
+pub record Ruled (op number held : ℕ) (sizes : List ℕ) (waiting : Queue) (fates : List ℕ) (r : Ruling) : Type 0 where
   pub same :
       (plan : Plan) (queue : steps.Queue → List ℕ)
-      → (35 ≤ op → op ≤ 36 → found on (listOf waiting) (conditionCode number) ≡ queue (onCondition number))
-      → (op ≡ 37 → found on (listOf waiting) (barrierCode number) ≡ queue (atBarrier number))
-      → (op ≡ 37 → getD (plan .sizes) number 0 ≡ getD sizes number 0)
+      → (opSignal ≤ op → op ≤ opBroadcast → found fates (listOf waiting) (conditionCode number) ≡ queue (onCondition number))
+      → (op ≡ opBarrier → found fates (listOf waiting) (barrierCode number) ≡ queue (atBarrier number))
+      → (op ≡ opBarrier → getD (plan .sizes) number 0 ≡ getD sizes number 0)
       → rulingOf r ≡ ruleOf plan queue held (syncOf op number)
-  pub sound : Sound held number waiting on r
+  pub sound : Coherent held number waiting fates r

@@ -1,62 +1,65 @@
 // What a ruling makes of the fates' codes.
 use crate::ruling::Goes;
 use crate::ruling::Ruling;
+use format::fates::GOING;
+use format::limits::WORKERS_LIMIT;
 use queue::Queue;
 ghost use mathlib.Core.Path.{_≡_};
 ghost use mathlib.Core.List.{_++_};
 ghost use Prim.Native.Nat.{_<_};
 ghost use lib.ListN.{length};
+ghost use Rattle.protocol.specs.Format.{workersLimit};
 ghost use Rattle.queue.specs.List.{listOf, Good, Below, setAll};
 ghost use Rattle.rules.specs.Codes.{codeAfter};
 ghost use Rattle.rules.specs.Rules.{wokenOf, joinedOf};
-ghost use Rattle.rules.specs.Fates.{Freeing, Settled};
+ghost use Rattle.rules.specs.Fates.{Freeing, FatesSettled};
 
 // The code of the holder's fate.
 pub fn code_after(goes: Goes) -> u64
     ensures { λ r. ⌜ r ≡ codeAfter goes ⌝ }
 {
     match goes {
-        Goes::Keeps => 0,
-        Goes::Gives => 0,
+        Goes::Keeps => GOING,
+        Goes::Gives => GOING,
         Goes::Leaves(k) => k,
     }
 }
 
 // None of these workers waits any more.
-fn free(on: &mut [u64; 8], queued: Queue)
-    requires { ⌜ Good queued × Below 8 (listOf queued) ⌝ }
-    ensures { λ r. ⌜ now (on .exit) ≡ setAll 0 (listOf queued) (now (on .entry)) ⌝ }
+fn free(fates: &mut [u64; WORKERS_LIMIT], queued: Queue)
+    requires { ⌜ Good queued × Below workersLimit (listOf queued) ⌝ }
+    ensures { λ r. ⌜ now (fates .exit) ≡ setAll 0 (listOf queued) (now (fates .entry)) ⌝ }
 {
     let mut left = queued;
     while !left.is_empty() {
         let w = left.first() as usize;
-        on[w] = 0;
+        fates[w] = GOING;
         left = left.rest();
     }
 }
 
-fn free_moved(on: &mut [u64; 8], wakes: bool, joins: bool, queued: Queue)
+fn free_moved(fates: &mut [u64; WORKERS_LIMIT], wakes: bool, joins: bool, queued: Queue)
     requires { ⌜ Freeing wakes joins queued ⌝ }
-    ensures { λ r. ⌜ now (on .exit) ≡ setAll 0 (wokenOf wakes (listOf queued) ++ joinedOf joins (listOf queued)) (now (on .entry)) ⌝ }
+    ensures { λ r. ⌜ now (fates .exit) ≡ setAll 0 (wokenOf wakes (listOf queued) ++ joinedOf joins (listOf queued)) (now (fates .entry)) ⌝ }
 {
     if joins {
-        free(on, queued);
+        free(fates, queued);
         return;
     }
     if wakes {
         let w = queued.first() as usize;
-        on[w] = 0;
+        fates[w] = GOING;
     }
 }
 
 // Those whom the step moves wait no more, and the holder h has its new fate.
-pub fn settle_fates(on: &mut [u64; 8], r: Ruling, h: usize)
-    requires { ⌜ (length (now on) ≡ 8) × (h < 8) × Freeing (r .wakes) (r .joins) (r .queued) ⌝ }
-    ensures { λ u. ⌜ Settled (now (on .entry)) r h (now (on .exit)) ⌝ }
+pub fn settle_fates(fates: &mut [u64; WORKERS_LIMIT], r: Ruling, h: usize)
+    requires { ⌜ (length (now fates) ≡ workersLimit) × (h < workersLimit) × Freeing (r .wakes) (r .joins) (r .queued) ⌝ }
+    ensures { λ u. ⌜ FatesSettled (now (fates .entry)) r h (now (fates .exit)) ⌝ }
 {
     let queued = r.queued;
     let goes = r.goes;
     let code = code_after(goes);
-    free_moved(on, r.wakes, r.joins, queued);
-    on[h] = code;
+    free_moved(fates, r.wakes, r.joins, queued);
+    fates[h] = code;
 }

@@ -1,17 +1,20 @@
 // Where a ruling moves workers between the three lists.
 use crate::ruling::Goes;
 use crate::ruling::Ruling;
+use format::fates::ON_CONDITION;
+use format::limits::WORKERS_LIMIT;
 use queue::Queue;
 ghost use mathlib.Core.Bool.{true};
 ghost use mathlib.Core.Path.{_≡_};
 ghost use mathlib.Core.List.{_++_};
 ghost use Prim.Native.Nat.{_+_, _≤_, _<_};
 ghost use lib.ListN.{length, drop};
+ghost use Rattle.protocol.specs.Format.{workersLimit};
 ghost use Rattle.protocol.specs.Rounds.{staysIn, joinsNext, joinsWaiting, without};
 ghost use Rattle.queue.specs.List.{listOf, Good, Holds};
 ghost use Rattle.rules.specs.Codes.{goesOf};
 ghost use Rattle.rules.specs.Rules.{wokenOf, joinedOf, rulingOf};
-ghost use Rattle.rules.specs.Moves.{Turning, Leaving, Room, ListsMoved};
+ghost use Rattle.rules.specs.Moves.{Relisting, Parting, ListsMoving, ListsMoved};
 
 // This round's list, the next one's, and those who wait.
 pub struct Lists {
@@ -22,7 +25,7 @@ pub struct Lists {
 
 // The woken worker in front.
 fn wake(rest: Queue, wakes: bool, queued: Queue) -> Queue
-    requires { ⌜ Good rest × (length (listOf rest) < 8) × (wakes ≡ true → 0 < length (listOf queued)) ⌝ }
+    requires { ⌜ Good rest × (length (listOf rest) < workersLimit) × (wakes ≡ true → 0 < length (listOf queued)) ⌝ }
     ensures { λ q. ⌜ Holds q (wokenOf wakes (listOf queued) ++ listOf rest) ⌝ }
 {
     if wakes {
@@ -32,7 +35,7 @@ fn wake(rest: Queue, wakes: bool, queued: Queue) -> Queue
 }
 
 pub fn list_after(list: Queue, goes: Goes, wakes: bool, queued: Queue, h: u64) -> Queue
-    requires { ⌜ Turning list wakes queued h ⌝ }
+    requires { ⌜ Relisting list wakes queued h ⌝ }
     ensures { λ q. ⌜ Holds q (staysIn (goesOf goes) h ++ (wokenOf wakes (listOf queued) ++ drop 1 (listOf list))) ⌝ }
 {
     let behind = wake(list.rest(), wakes, queued);
@@ -45,7 +48,7 @@ pub fn list_after(list: Queue, goes: Goes, wakes: bool, queued: Queue, h: u64) -
 
 // The queued workers behind.
 fn join(next: Queue, joins: bool, queued: Queue) -> Queue
-    requires { ⌜ Good next × Good queued × (length (listOf next) + length (listOf queued) ≤ 8) ⌝ }
+    requires { ⌜ Good next × Good queued × (length (listOf next) + length (listOf queued) ≤ workersLimit) ⌝ }
     ensures { λ q. ⌜ Holds q (listOf next ++ joinedOf joins (listOf queued)) ⌝ }
 {
     if joins {
@@ -55,7 +58,7 @@ fn join(next: Queue, joins: bool, queued: Queue) -> Queue
 }
 
 pub fn next_after(next: Queue, joins: bool, queued: Queue, goes: Goes, h: u64) -> Queue
-    requires { ⌜ Good next × Good queued × (length (listOf next) + length (listOf queued) < 8) × (h < 16) ⌝ }
+    requires { ⌜ Good next × Good queued × (length (listOf next) + length (listOf queued) < workersLimit) × (h < 16) ⌝ }
     ensures { λ q. ⌜ Holds q (listOf next ++ (joinedOf joins (listOf queued) ++ joinsNext (goesOf goes) h)) ⌝ }
 {
     let joined = join(next, joins, queued);
@@ -67,12 +70,19 @@ pub fn next_after(next: Queue, joins: bool, queued: Queue, goes: Goes, h: u64) -
 }
 
 // Those who go on waiting: where the queued join, they are those whose fate's code is the key.
-fn stay(waiting: Queue, wakes: bool, joins: bool, queued: Queue, on: &[u64; 8], key: u64) -> Queue
-    requires { ⌜ Leaving waiting wakes joins queued (now on) key ⌝ }
+fn stay(
+    waiting: Queue,
+    wakes: bool,
+    joins: bool,
+    queued: Queue,
+    fates: &[u64; WORKERS_LIMIT],
+    code: u64,
+) -> Queue
+    requires { ⌜ Parting waiting wakes joins queued (now fates) code ⌝ }
     ensures { λ q. ⌜ Holds q (without (wokenOf wakes (listOf queued) ++ joinedOf joins (listOf queued)) (listOf waiting)) ⌝ }
 {
     if joins {
-        return waiting.reject(on, key);
+        return waiting.reject(fates, code);
     }
     if wakes {
         return waiting.remove(queued.first());
@@ -82,19 +92,23 @@ fn stay(waiting: Queue, wakes: bool, joins: bool, queued: Queue, on: &[u64; 8], 
 
 // A holder that leaves to wait, which its fate's code says, is the last to wait.
 fn wait_last(waiting: Queue, goes: Goes, h: u64) -> Queue
-    requires { ⌜ Good waiting × (length (listOf waiting) < 8) × (h < 16) ⌝ }
+    requires { ⌜ Good waiting × (length (listOf waiting) < workersLimit) × (h < 16) ⌝ }
     ensures { λ q. ⌜ Holds q (listOf waiting ++ joinsWaiting (goesOf goes) h) ⌝ }
 {
     match goes {
         Goes::Keeps => waiting,
         Goes::Gives => waiting,
-        Goes::Leaves(k) => if k < 3 { waiting } else { waiting.push(h) },
+        Goes::Leaves(k) => if k < ON_CONDITION {
+            waiting
+        } else {
+            waiting.push(h)
+        },
     }
 }
 
 // The three lists after the holder h's step. The key is the code of those who wait at the step's barrier.
-pub fn moved(lists: Lists, r: Ruling, h: u64, on: &[u64; 8], key: u64) -> Lists
-    requires { ⌜ Room lists r h (now on) key ⌝ }
+pub fn moved(lists: Lists, r: Ruling, h: u64, fates: &[u64; WORKERS_LIMIT], code: u64) -> Lists
+    requires { ⌜ ListsMoving lists r h (now fates) code ⌝ }
     ensures { λ after. ⌜ ListsMoved lists (rulingOf r) h after ⌝ }
 {
     let queued = r.queued;
@@ -106,7 +120,7 @@ pub fn moved(lists: Lists, r: Ruling, h: u64, on: &[u64; 8], key: u64) -> Lists
     let waits = lists.waiting;
     let list = list_after(old, goes, wakes, queued, h);
     let next = next_after(later, joins, queued, goes, h);
-    let left = stay(waits, wakes, joins, queued, on, key);
+    let left = stay(waits, wakes, joins, queued, fates, code);
     let waiting = wait_last(left, goes, h);
     Lists {
         list,

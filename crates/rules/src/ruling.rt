@@ -1,20 +1,30 @@
 // The rule of each synchronising step.
+use format::fates::AT_BARRIER;
+use format::fates::EXITED;
+use format::fates::FAILED;
+use format::fates::ON_CONDITION;
+use format::limits::BARRIER_COUNT;
+use format::limits::WORKERS_LIMIT;
+use format::ops;
 use queue::Queue;
 ghost use mathlib.Core.List.{List};
 ghost use Prim.Native.Nat.{ℕ, _≤_};
+ghost use Rattle.protocol.specs.Format.{workersLimit, stepsLimit};
 ghost use Rattle.protocol.specs.Rounds.{failure, lockRule, unlockRule, waitRule, signalRule, barrierRule, exitRule};
 ghost use Rattle.queue.specs.List.{listOf, Good, Below};
 ghost use Rattle.queue.specs.declared.Queue.{Queue};
 ghost use Rattle.rules.specs.Codes.{conditionCode, barrierCode};
-ghost use Rattle.rules.specs.Rules.{found, AtZero, Commits, Met, Asks, Means, Ruled};
+ghost use Rattle.rules.specs.Rules.{found, AtZero, Commits, Met, Asking, Means, Ruled};
 
-// The code of the fate of a worker that waits is one of these and twice the number of what it waits on.
-pub const ON_CONDITION: u64 = 4;
+// Outcomes that name neither a worker nor a count.
+pub const OUTCOME_QUEUED: u8 = 0;
 
-pub const AT_BARRIER: u64 = 5;
+pub const OUTCOME_FAILED: u8 = 254;
+
+pub const OUTCOME_NONE: u8 = 255;
 
 // What becomes of the holder's copies.
-pub enum Bytes {
+pub enum Uncommitted {
     Kept,
     Committed,
     Lost,
@@ -30,7 +40,7 @@ pub enum Goes {
 // queued: those who wait where the step says, if its rule asks for them. wakes: the first of them is woken; joins: all of them
 // join the next list.
 pub struct Ruling {
-    pub bytes: Bytes,
+    pub bytes: Uncommitted,
     pub held: u64,
     pub goes: Goes,
     pub wakes: bool,
@@ -40,17 +50,17 @@ pub struct Ruling {
 }
 
 fn failed(held: u64) -> Ruling
-    ensures { λ r. ⌜ ((number : ℕ) (waiting : Queue) (on : List ℕ) → Means held number waiting on r (failure held)) ⌝ }
+    ensures { λ r. ⌜ ((number : ℕ) (waiting : Queue) (fates : List ℕ) → Means held number waiting fates r (failure held)) ⌝ }
 {
     let none = Queue::empty();
     Ruling {
-        bytes: Bytes::Lost,
+        bytes: Uncommitted::Lost,
         held,
-        goes: Goes::Leaves(2),
+        goes: Goes::Leaves(FAILED),
         wakes: false,
         joins: false,
         queued: none,
-        outcome: 254,
+        outcome: OUTCOME_FAILED,
     }
 }
 
@@ -60,19 +70,19 @@ fn gives_at_zero(held: u64) -> Goes
     if held == 0 { Goes::Gives } else { Goes::Keeps }
 }
 
-fn commits_at_zero(held: u64) -> Bytes
+fn commits_at_zero(held: u64) -> Uncommitted
     ensures { λ r. ⌜ Commits held r ⌝ }
 {
     if held == 0 {
-        Bytes::Committed
+        Uncommitted::Committed
     } else {
-        Bytes::Kept
+        Uncommitted::Kept
     }
 }
 
 fn lock(held: u64) -> Ruling
-    requires { ⌜ held ≤ 128 ⌝ }
-    ensures { λ r. ⌜ ((number : ℕ) (waiting : Queue) (on : List ℕ) → Means held number waiting on r (lockRule held)) ⌝ }
+    requires { ⌜ held ≤ stepsLimit ⌝ }
+    ensures { λ r. ⌜ ((number : ℕ) (waiting : Queue) (fates : List ℕ) → Means held number waiting fates r (lockRule held)) ⌝ }
 {
     let none = Queue::empty();
     let bytes = commits_at_zero(held);
@@ -88,8 +98,8 @@ fn lock(held: u64) -> Ruling
 }
 
 fn unlock(held: u64) -> Ruling
-    requires { ⌜ held ≤ 128 ⌝ }
-    ensures { λ r. ⌜ ((number : ℕ) (waiting : Queue) (on : List ℕ) → Means held number waiting on r (unlockRule held)) ⌝ }
+    requires { ⌜ held ≤ stepsLimit ⌝ }
+    ensures { λ r. ⌜ ((number : ℕ) (waiting : Queue) (fates : List ℕ) → Means held number waiting fates r (unlockRule held)) ⌝ }
 {
     if held == 0 {
         return failed(held);
@@ -111,43 +121,43 @@ fn unlock(held: u64) -> Ruling
 
 fn wait(condition: u64, count: u64) -> Ruling
     requires { ⌜ condition ≤ 15 ⌝ }
-    ensures { λ r. ⌜ ((number : ℕ) (waiting : Queue) (on : List ℕ) → Means count number waiting on r (waitRule condition count)) ⌝ }
+    ensures { λ r. ⌜ ((number : ℕ) (waiting : Queue) (fates : List ℕ) → Means count number waiting fates r (waitRule condition count)) ⌝ }
 {
     if count == 0 {
         return failed(count);
     }
     let none = Queue::empty();
     Ruling {
-        bytes: Bytes::Committed,
+        bytes: Uncommitted::Committed,
         held: count,
         goes: Goes::Leaves(ON_CONDITION + 2 * condition),
         wakes: false,
         joins: false,
         queued: none,
-        outcome: 255,
+        outcome: OUTCOME_NONE,
     }
 }
 
 // Signal and broadcast.
-fn signal(condition: u64, held: u64, waiting: Queue, on: &[u64; 8]) -> Ruling
-    requires { ⌜ (condition ≤ 15) × Good waiting × Below 8 (listOf waiting) ⌝ }
-    ensures { λ r. ⌜ Means held condition waiting (now (on .entry)) r (signalRule (found (now (on .entry)) (listOf waiting) (conditionCode condition)) held) ⌝ }
+fn signal(condition: u64, held: u64, waiting: Queue, fates: &[u64; WORKERS_LIMIT]) -> Ruling
+    requires { ⌜ (condition ≤ 15) × Good waiting × Below workersLimit (listOf waiting) ⌝ }
+    ensures { λ r. ⌜ Means held condition waiting (now (fates .entry)) r (signalRule (found (now (fates .entry)) (listOf waiting) (conditionCode condition)) held) ⌝ }
 {
     let goes = gives_at_zero(held);
-    let queued = waiting.select(on, ON_CONDITION + 2 * condition);
+    let queued = waiting.select(fates, ON_CONDITION + 2 * condition);
     if queued.is_empty() {
         return Ruling {
-            bytes: Bytes::Committed,
+            bytes: Uncommitted::Committed,
             held,
             goes,
             wakes: false,
             joins: false,
             queued,
-            outcome: 255,
+            outcome: OUTCOME_NONE,
         };
     }
     Ruling {
-        bytes: Bytes::Committed,
+        bytes: Uncommitted::Committed,
         held,
         goes,
         wakes: true,
@@ -158,37 +168,37 @@ fn signal(condition: u64, held: u64, waiting: Queue, on: &[u64; 8]) -> Ruling
 }
 
 // Those who wait at barrier b; nobody, where all who wait are too few for it.
-fn met(b: u64, size: u8, waiting: Queue, on: &[u64; 8]) -> Queue
-    requires { ⌜ (b ≤ 15) × Good waiting × Below 8 (listOf waiting) ⌝ }
-    ensures { λ q. ⌜ Met (now (on .entry)) waiting (barrierCode b) size q ⌝ }
+fn met(b: u64, size: u8, waiting: Queue, fates: &[u64; WORKERS_LIMIT]) -> Queue
+    requires { ⌜ (b ≤ 15) × Good waiting × Below workersLimit (listOf waiting) ⌝ }
+    ensures { λ q. ⌜ Met (now (fates .entry)) waiting (barrierCode b) size q ⌝ }
 {
     if waiting.count() + 1 < size as u64 {
         return Queue::empty();
     }
-    waiting.select(on, AT_BARRIER + 2 * b)
+    waiting.select(fates, AT_BARRIER + 2 * b)
 }
 
-fn barrier(b: u64, size: u8, held: u64, waiting: Queue, on: &[u64; 8]) -> Ruling
-    requires { ⌜ (b ≤ 15) × Good waiting × Below 8 (listOf waiting) ⌝ }
-    ensures { λ r. ⌜ Means held b waiting (now (on .entry)) r (barrierRule b size (found (now (on .entry)) (listOf waiting) (barrierCode b)) held) ⌝ }
+fn barrier(b: u64, size: u8, held: u64, waiting: Queue, fates: &[u64; WORKERS_LIMIT]) -> Ruling
+    requires { ⌜ (b ≤ 15) × Good waiting × Below workersLimit (listOf waiting) ⌝ }
+    ensures { λ r. ⌜ Means held b waiting (now (fates .entry)) r (barrierRule b size (found (now (fates .entry)) (listOf waiting) (barrierCode b)) held) ⌝ }
 {
     if held != 0 {
         return failed(held);
     }
-    let queued = met(b, size, waiting, on);
+    let queued = met(b, size, waiting, fates);
     if queued.len + 1 < size as u64 {
         return Ruling {
-            bytes: Bytes::Committed,
+            bytes: Uncommitted::Committed,
             held,
             goes: Goes::Leaves(AT_BARRIER + 2 * b),
             wakes: false,
             joins: false,
             queued,
-            outcome: 0,
+            outcome: OUTCOME_QUEUED,
         };
     }
     Ruling {
-        bytes: Bytes::Committed,
+        bytes: Uncommitted::Committed,
         held,
         goes: Goes::Gives,
         wakes: false,
@@ -199,20 +209,20 @@ fn barrier(b: u64, size: u8, held: u64, waiting: Queue, on: &[u64; 8]) -> Ruling
 }
 
 fn exit(held: u64) -> Ruling
-    ensures { λ r. ⌜ ((number : ℕ) (waiting : Queue) (on : List ℕ) → Means held number waiting on r (exitRule held)) ⌝ }
+    ensures { λ r. ⌜ ((number : ℕ) (waiting : Queue) (fates : List ℕ) → Means held number waiting fates r (exitRule held)) ⌝ }
 {
     if held != 0 {
         return failed(held);
     }
     let none = Queue::empty();
     Ruling {
-        bytes: Bytes::Committed,
+        bytes: Uncommitted::Committed,
         held,
-        goes: Goes::Leaves(1),
+        goes: Goes::Leaves(EXITED),
         wakes: false,
         joins: false,
         queued: none,
-        outcome: 255,
+        outcome: OUTCOME_NONE,
     }
 }
 
@@ -221,29 +231,29 @@ pub fn rule(
     op: u8,
     number: u16,
     held: u64,
-    sizes: &[u8; 8],
+    sizes: &[u8; BARRIER_COUNT],
     waiting: Queue,
-    on: &[u64; 8],
+    fates: &[u64; WORKERS_LIMIT],
 ) -> Ruling
-    requires { ⌜ Asks op number held waiting ⌝ }
-    ensures { λ r. ⌜ Ruled op number held (now (sizes .entry)) waiting (now (on .entry)) r ⌝ }
+    requires { ⌜ Asking op number held waiting ⌝ }
+    ensures { λ r. ⌜ Ruled op number held (now (sizes .entry)) waiting (now (fates .entry)) r ⌝ }
 {
-    if op == 32 {
+    if op == ops::LOCK {
         return lock(held);
     }
-    if op == 33 {
+    if op == ops::UNLOCK {
         return unlock(held);
     }
     let n = number as u64;
-    if op == 34 {
+    if op == ops::WAIT {
         return wait(n, held);
     }
-    if op == 37 {
+    if op == ops::BARRIER {
         let b = number as usize;
-        return barrier(n, sizes[b], held, waiting, on);
+        return barrier(n, sizes[b], held, waiting, fates);
     }
-    if op == 38 {
+    if op == ops::EXIT {
         return exit(held);
     }
-    signal(n, held, waiting, on)
+    signal(n, held, waiting, fates)
 }

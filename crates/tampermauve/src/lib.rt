@@ -5,7 +5,6 @@ use crate::admit::Lengths;
 use crate::admit::admit;
 use ending::close_buffers;
 use engine::play::play;
-use journal::report::Counts;
 use plan::answer::code;
 use plan::check::check;
 ghost use mathlib.Core.Path.{_≡_};
@@ -48,13 +47,9 @@ pub extern "C" fn tampermauve_run(
     let sizes = admitted.layout.sizes;
     let firsts = admitted.layout.firsts;
     let played = play(file, workers, &sizes, &firsts, turns, memory, log, work);
-    let t = played.tally;
+    let t = played.schedule;
     let fates = played.fates;
-    let counts = Counts {
-        moves: t.moves,
-        rounds: t.rounds,
-        records: t.records,
-    };
+    let counts = t.counts;
     close_buffers(t.lists.list, counts, &fates, workers, log, report, work);
     0
 }

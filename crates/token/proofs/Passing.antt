@@ -6,7 +6,7 @@ use mathlib.Core.Bool.{Bool, true, false, not, _&&_, true≢false}
 use mathlib.Core.Path.{_≡_, refl, sym, subst}
 use mathlib.Core.List.{List}
 use lib.ListN.{length, getD}
-use Rattle.token.specs.Passes.{Ahead, Passed, Spans, noneMoves}
+use Rattle.token.specs.Passes.{Passing, Passed, Spanned, noneMoves}
 
 -- each number from one to before another has the property
 abbrev Each : (ℕ → Type 0) → ℕ → ℕ → Type 0
@@ -53,9 +53,9 @@ idle-not can k w rest e more = rw (more, e)
 
 module _ {turns : List ℕ} where
   -- a turn more, and ends that are wide enough for it
-  pub spans-more : {from at to least most least′ most′ : ℕ} → Spans turns from at least most → to ≤ at + 1
+  pub spans-more : {from at to least most least′ most′ : ℕ} → Spanned turns from at least most → to ≤ at + 1
       → (least′ ≤ least) × (least′ ≤ getD turns at 0) → (most ≤ most′) × (getD turns at 0 ≤ most′) × (most′ < 8)
-      → Spans turns from to least′ most′
+      → Spanned turns from to least′ most′
   spans-more {least′ = least′} {most′ = most′} s b low high =
       record {
         low = each-more (λ i. least′ ≤ getD turns i 0) (λ i h l. omega (arith, s .low i h l)) (low .1) b;
@@ -63,7 +63,7 @@ module _ {turns : List ℕ} where
         below = high .2;
       }
 
-  pub ahead-on : {from to : ℕ} → Ahead turns from → to ≤ length turns → Ahead turns to
+  pub ahead-on : {from to : ℕ} → Passing turns from → to ≤ length turns → Passing turns to
   ahead-on a h = record { within = h; short = a .short; named = a .named }
 
   module _ {can : List Bool} where
@@ -74,7 +74,7 @@ module _ {turns : List ℕ} where
     passed-one h e off =
         record { onward = omega arith; within = omega arith; idle = each-one (λ i. getD can (getD turns i 0) false ≡ false) off (omega arith) }
 
-    pub passed-block : {from to least most : ℕ} → from ≤ to → to ≤ length turns → Spans turns from to least most
+    pub passed-block : {from to least most : ℕ} → from ≤ to → to ≤ length turns → Spanned turns from to least most
         → noneMoves can (most + 1 - least) least ≡ true → Passed turns can from to
     passed-block {least = least} {most = most} o h s none =
         record {

@@ -4,12 +4,14 @@ use mathlib.Core.Bool.{Bool, true, false, not, _&&_}
 use mathlib.Core.Path.{_≡_}
 use mathlib.Core.List.{List}
 use lib.ListN.{length, getD}
+use Rattle.protocol.specs.Calls.{turnsLimit}
+use Rattle.protocol.specs.Format.{workersLimit}
 
 -- a place in a list of turns, each of which names a worker
-pub record Ahead (turns : List ℕ) (from : ℕ) : Type 0 where
+pub record Passing (turns : List ℕ) (from : ℕ) : Type 0 where
   pub within : from ≤ length turns
-  pub short : length turns ≤ 65535
-  pub named : (i : ℕ) → i < length turns → getD turns i 0 < 8
+  pub short : length turns ≤ turnsLimit
+  pub named : (i : ℕ) → i < length turns → getD turns i 0 < workersLimit
 
 -- from one place to before another each turn is by a worker that cannot move
 pub record Passed (turns : List ℕ) (can : List Bool) (from to : ℕ) : Type 0 where
@@ -18,10 +20,10 @@ pub record Passed (turns : List ℕ) (can : List Bool) (from to : ℕ) : Type 0 
   pub idle : (i : ℕ) → from ≤ i → i < to → getD can (getD turns i 0) false ≡ false
 
 -- from one place to before another no turn names a worker outside these
-pub record Spans (turns : List ℕ) (from to least most : ℕ) : Type 0 where
+pub record Spanned (turns : List ℕ) (from to least most : ℕ) : Type 0 where
   pub low : (i : ℕ) → from ≤ i → i < to → least ≤ getD turns i 0
   pub high : (i : ℕ) → from ≤ i → i < to → getD turns i 0 ≤ most
-  pub below : most < 8
+  pub below : most < workersLimit
 
 -- whether none of so many workers can move, from one on
 unfoldable pub noneMoves : List Bool → ℕ → ℕ → Bool

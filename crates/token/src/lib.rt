@@ -1,11 +1,13 @@
 // Who can move: at the fence everyone who has not arrived, behind it the holder alone.
 pub mod passes;
 
+use format::limits::WORKERS_LIMIT;
 use queue::Queue;
 ghost use mathlib.Core.Bool.{true, false};
 ghost use mathlib.Core.Path.{_≡_};
 ghost use Prim.Native.Nat.{_+_, _-_, _≤_, _<_};
 ghost use lib.ListN.{length, getD};
+ghost use Rattle.protocol.specs.Format.{workersLimit};
 ghost use Rattle.queue.specs.List.{listOf, Good, Below};
 ghost use Rattle.token.specs.Token.{arrivedCan, raised, TurnedOver};
 
@@ -18,8 +20,8 @@ pub struct Round {
 }
 
 // Worker w arrives at the fence; the last one to arrive hands the token to the first. How many are still away.
-pub fn arrive(list: Queue, away: u64, w: usize, can: &mut [bool; 8]) -> u64
-    requires { ⌜ (w < 8) × (1 ≤ away) × (0 < length (listOf list)) × (getD (listOf list) 0 0 < 8) ⌝ }
+pub fn arrive(list: Queue, away: u64, w: usize, can: &mut [bool; WORKERS_LIMIT]) -> u64
+    requires { ⌜ (w < workersLimit) × (1 ≤ away) × (0 < length (listOf list)) × (getD (listOf list) 0 0 < workersLimit) ⌝ }
     ensures { λ r. ⌜ (r ≡ away - 1) × (now (can .exit) ≡ arrivedCan (listOf list) away w (now (can .entry))) ⌝ }
 {
     can[w] = false;
@@ -33,8 +35,8 @@ pub fn arrive(list: Queue, away: u64, w: usize, can: &mut [bool; 8]) -> u64
 }
 
 // All of these can move.
-pub fn raise(can: &mut [bool; 8], workers: Queue)
-    requires { ⌜ Good workers × Below 8 (listOf workers) ⌝ }
+pub fn raise(can: &mut [bool; WORKERS_LIMIT], workers: Queue)
+    requires { ⌜ Good workers × Below workersLimit (listOf workers) ⌝ }
     ensures { λ r. ⌜ now (can .exit) ≡ raised (listOf workers) (now (can .entry)) ⌝ }
 {
     let mut left = workers;
@@ -46,8 +48,14 @@ pub fn raise(can: &mut [bool; 8], workers: Queue)
 }
 
 // After the holder h's step: the first in the list holds the token, or, where the list is empty, the next round begins.
-pub fn turn_over(list: Queue, next: Queue, h: usize, rounds: u64, can: &mut [bool; 8]) -> Round
-    requires { ⌜ (h < 8) × (rounds < 65535) × Below 8 (listOf list) × Good next × Below 8 (listOf next) ⌝ }
+pub fn turn_over(
+    list: Queue,
+    next: Queue,
+    h: usize,
+    rounds: u64,
+    can: &mut [bool; WORKERS_LIMIT],
+) -> Round
+    requires { ⌜ (h < workersLimit) × (rounds < 65535) × Below workersLimit (listOf list) × Good next × Below workersLimit (listOf next) ⌝ }
     ensures { λ r. ⌜ TurnedOver list next h rounds (now (can .entry)) r (now (can .exit)) ⌝ }
 {
     can[h] = false;

@@ -1,8 +1,10 @@
 // Turns that pass, many at a time.
+use format::limits::WORKERS_LIMIT;
 ghost use mathlib.Core.Path.{_≡_};
 ghost use Prim.Native.Nat.{_+_, _-_, _≤_, _<_};
 ghost use lib.ListN.{length};
-ghost use Rattle.token.specs.Passes.{Ahead, Passed, Spans, noneMoves};
+ghost use Rattle.protocol.specs.Format.{workersLimit};
+ghost use Rattle.token.specs.Passes.{Passing, Passed, Spanned, noneMoves};
 
 // A block of turns names no worker below the least and none above the most. Whether it names these two is left open: a wider
 // range would cost time, and no turn that moves would be passed over.
@@ -19,8 +21,8 @@ const NEAR: usize = 12;
 
 // All turns are looked at, without a branch, so that the loop becomes vector code.
 fn span(turns: &[u8], at: usize) -> Range
-    requires { ⌜ Ahead (now turns) at × (at + 64 ≤ length (now turns)) ⌝ }
-    ensures { λ s. ⌜ Spans (now (turns .entry)) at (at + 64) (s .least) (s .most) ⌝ }
+    requires { ⌜ Passing (now turns) at × (at + 64 ≤ length (now turns)) ⌝ }
+    ensures { λ s. ⌜ Spanned (now (turns .entry)) at (at + 64) (s .least) (s .most) ⌝ }
 {
     let mut least: u8 = 255;
     let mut most: u8 = 0;
@@ -35,8 +37,8 @@ fn span(turns: &[u8], at: usize) -> Range
 }
 
 // Whether none of the workers from least to most can move.
-fn idle(can: &[bool; 8], least: u8, most: u8) -> bool
-    requires { ⌜ most < 8 ⌝ }
+fn idle(can: &[bool; WORKERS_LIMIT], least: u8, most: u8) -> bool
+    requires { ⌜ most < workersLimit ⌝ }
     ensures { λ b. ⌜ b ≡ noneMoves (now (can .entry)) (most + 1 - least) least ⌝ }
 {
     let mut w = least as usize;
@@ -51,8 +53,8 @@ fn idle(can: &[bool; 8], least: u8, most: u8) -> bool
 }
 
 // Steps over whole blocks.
-fn blocks(turns: &[u8], from: usize, can: &[bool; 8]) -> usize
-    requires { ⌜ Ahead (now turns) from ⌝ }
+fn blocks(turns: &[u8], from: usize, can: &[bool; WORKERS_LIMIT]) -> usize
+    requires { ⌜ Passing (now turns) from ⌝ }
     ensures { λ r. ⌜ Passed (now (turns .entry)) (now (can .entry)) from r ⌝ }
 {
     let mut i = from;
@@ -68,8 +70,8 @@ fn blocks(turns: &[u8], from: usize, can: &[bool; 8]) -> usize
 
 // The next turn that may move, or one before it. How far before is left open, since each turn from there on is looked at again.
 // Blocks pay only where none of the nearest turns moves.
-pub fn pass_over(turns: &[u8], from: usize, can: &[bool; 8]) -> usize
-    requires { ⌜ Ahead (now turns) from ⌝ }
+pub fn pass_over(turns: &[u8], from: usize, can: &[bool; WORKERS_LIMIT]) -> usize
+    requires { ⌜ Passing (now turns) from ⌝ }
     ensures { λ r. ⌜ Passed (now (turns .entry)) (now (can .entry)) from r ⌝ }
 {
     if turns.len() < from + NEAR {

@@ -10,14 +10,14 @@ use mathlib.Core.Path.{_≡_, refl}
 use mathlib.Core.List.{List}
 use lib.Dec.{eqb}
 use lib.ListN.{getD}
-use Rattle.protocol.specs.Format.{Record, rowIn, rowOf, stepOf, own, sync, exit}
+use Rattle.protocol.specs.Format.{stepsLimit, Record, rowIn, rowOf, stepOf, own, sync, exit}
 use Rattle.protocol.specs.Pages.{Copies, loadWord}
 use Rattle.protocol.specs.Steps as steps
 use Rattle.protocol.specs.Steps.{Fate, ownStep, setting, placeAs}
 use Rattle.protocol.proofs.Each.{each}
 use Rattle.worker.specs.declared.Worker.{Worker}
 use Rattle.worker.specs.declared.Outcome.the-variants.{Private, Stores}
-use Rattle.worker.specs.Private.{registersOf, viewed, Replaced, ownOf, resultOf, skipOf, Ready, Stepped}
+use Rattle.worker.specs.Private.{registersOf, viewed, Replaced, ownOf, resultOf, skipOf, OwnStepping, OwnStepped}
 
 -- the step of a record of the plan file
 pub step-own : (r : Record) → 16 ≤ r .op → r .op ≤ 22 → stepOf r ≡ own (ownOf (r .op) (r .register) (r .number))
@@ -80,11 +80,11 @@ module _ (v : Worker) (register number : ℕ) (memory : List ℕ) (arrived : Boo
       each (λ k. after k ≡ placeAs (v .place + 1 + skipOf k (getD (registersOf v) register 0) number) (viewed v arrived copies fate))
       21 1 refl refl op least most
 
-pub skip-small : (op value number : ℕ) → number ≤ 127 → skipOf op value number ≤ 127
+pub skip-small : (op value number : ℕ) → number < stepsLimit → skipOf op value number < stepsLimit
 unfolding skipOf
 skip-small op value number h = go (cond (eqb op 21) (eqb value 0) (not (eqb value 0)))
   where
-    go : (b : Bool) → cond b number 0 ≤ 127
+    go : (b : Bool) → cond b number 0 < stepsLimit
     go true = h
     go false = omega arith
 
@@ -92,14 +92,14 @@ abbrev at : ℕ → Worker → Worker
 at place v = record { place = place; held = v .held; registers = v .registers }
 
 -- what the three ways through a step give, from what the code has found
-module _ (v : Worker) (op register number loaded : ℕ) (ready : Ready v op register number) {value : ℕ} (holds : value ≡ getD (registersOf v) register 0) where
-  pub stores : op ≡ 18 → Stepped v op register number loaded (record { worker = at (v .place + 1) v; outcome = Stores value })
+module _ (v : Worker) (op register number loaded : ℕ) (ready : OwnStepping v op register number) {value : ℕ} (holds : value ≡ getD (registersOf v) register 0) where
+  pub stores : op ≡ 18 → OwnStepped v op register number loaded (record { worker = at (v .place + 1) v; outcome = Stores value })
   unfolding ownOf ownStep
   stores e = record { step = λ memory arrived copies fate read. rw (e, holds) }
 
   pub skips :
       21 ≤ op → {skip : ℕ} → skip ≡ skipOf op value number
-      → Stepped v op register number loaded (record { worker = at (v .place + 1 + skip) v; outcome = Private })
+      → OwnStepped v op register number loaded (record { worker = at (v .place + 1 + skip) v; outcome = Private })
   skips h e =
       record {
         step = λ memory arrived copies fate read. rw (e, holds) (skip-step v register number memory arrived copies fate op h (ready .most));
@@ -108,7 +108,7 @@ module _ (v : Worker) (op register number loaded : ℕ) (ready : Ready v op regi
   pub sets :
       (op ≡ 18 → ⊥) → op < 21 → {result : ℕ} → result ≡ resultOf (registersOf v) op value number loaded
       → {left : Worker} → Replaced (at (v .place + 1) v) register result left
-      → Stepped v op register number loaded (record { worker = left; outcome = Private })
+      → OwnStepped v op register number loaded (record { worker = left; outcome = Private })
   sets n h e w =
       record {
         step = λ memory arrived copies fate read.

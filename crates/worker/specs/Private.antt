@@ -5,7 +5,8 @@ use mathlib.Core.Path.{_≡_}
 use mathlib.Core.List.{List, [], _∷_}
 use lib.Dec.{eqb}
 use lib.ListN.{getD, set}
-use Rattle.protocol.specs.Format.{Own, assign, load, store, add, subtract, skipZero, skipNonzero}
+use Rattle.protocol.specs.Ops.{opSet, opLoad, opStore, opAdd, opSubtract, opSkipZero, opSkipNonzero}
+use Rattle.protocol.specs.Format.{registerCount, stepsLimit, Own, assign, load, store, add, subtract, skipZero, skipNonzero}
 use Rattle.protocol.specs.Pages.{Copies, loadWord, storeWord}
 use Rattle.protocol.specs.Steps as steps
 use Rattle.protocol.specs.Steps.{Fate, workerOf, ownStep}
@@ -25,32 +26,36 @@ registersOf v = digit (v .registers) 0 ∷ digit (v .registers) 1 ∷ digit (v .
 abbrev pub viewed : Worker → Bool → Copies → Fate → steps.Worker
 viewed v arrived copies fate = workerOf (v .place) (registersOf v) (v .held) arrived copies fate
 
+-- the worker behind a synchronising step, with so many locks held
+abbrev pub heldAs : Worker → ℕ → Worker
+heldAs v held = record { place = v .place + 1; held = held; registers = v .registers }
+
 -- w is v with another value in register r
 pub record Replaced (v : Worker) (r value : ℕ) (w : Worker) : Type 0 where
   pub place : w .place ≡ v .place
   pub held : w .held ≡ v .held
   pub registers : registersOf w ≡ set (registersOf v) r value
 
--- an own step by its row of the table; where an op has no such row, it is an assignment
+-- an own step by its op, as the table has it (`step-own` in proofs/OwnSteps ties the two); where an op is no own step's, an assignment
 unfoldable pub ownOf : ℕ → ℕ → ℕ → Own
 ownOf op register number =
-    cond (eqb op 17) (load register number)
-    (cond (eqb op 18) (store register number)
-    (cond (eqb op 19) (add register number)
-    (cond (eqb op 20) (subtract register number)
-    (cond (eqb op 21) (skipZero register number)
-    (cond (eqb op 22) (skipNonzero register number) (assign register number))))))
+    cond (eqb op opLoad) (load register number)
+    (cond (eqb op opStore) (store register number)
+    (cond (eqb op opAdd) (add register number)
+    (cond (eqb op opSubtract) (subtract register number)
+    (cond (eqb op opSkipZero) (skipZero register number)
+    (cond (eqb op opSkipNonzero) (skipNonzero register number) (assign register number))))))
 
--- what ops 16, 17, 19 and 20 put into the register, which holds a value at first
+-- what set, load, add and subtract put into the register, which holds a value at first
 unfoldable pub resultOf : List ℕ → ℕ → ℕ → ℕ → ℕ → ℕ
 resultOf registers op value number loaded =
-    cond (eqb op 17) loaded
-    (cond (eqb op 19) ((value + getD registers number 0) % 65536)
-    (cond (eqb op 20) ((value + 65536 - getD registers number 0) % 65536) number))
+    cond (eqb op opLoad) loaded
+    (cond (eqb op opAdd) ((value + getD registers number 0) % 65536)
+    (cond (eqb op opSubtract) ((value + 65536 - getD registers number 0) % 65536) number))
 
--- how many steps ops 21 and 22 skip
+-- how many steps a skip passes over
 unfoldable pub skipOf : ℕ → ℕ → ℕ → ℕ
-skipOf op value number = cond (cond (eqb op 21) (eqb value 0) (not (eqb value 0))) number 0
+skipOf op value number = cond (cond (eqb op opSkipZero) (eqb value 0) (not (eqb value 0))) number 0
 
 -- the copies after a move: a step that stores leaves that to the caller
 abbrev pub copiesAfter : Outcome → List ℕ → Copies → ℕ → Copies
@@ -58,18 +63,18 @@ copiesAfter Private memory copies address = copies
 copiesAfter (Stores value) memory copies address = storeWord memory copies address value
 
 -- what a step takes: an own step of an accepted plan, and the worker within its steps
-pub record Ready (v : Worker) (op register number : ℕ) : Type 0 where
-  pub place : v .place ≤ 128
-  pub least : 16 ≤ op
-  pub most : op ≤ 22
-  pub named : register < 4
-  pub operand : 19 ≤ op → op ≤ 20 → number < 4
-  pub skip : 21 ≤ op → number ≤ 127
+pub record OwnStepping (v : Worker) (op register number : ℕ) : Type 0 where
+  pub place : v .place ≤ stepsLimit
+  pub least : opSet ≤ op
+  pub most : op ≤ opSkipNonzero
+  pub named : register < registerCount
+  pub operand : opAdd ≤ op → op ≤ opSubtract → number < registerCount
+  pub skip : opSkipZero ≤ op → number < stepsLimit
 
 -- what a step gives: the definition's step, whatever the memory and the copies, where `loaded` is what a load would read
-pub record Stepped (v : Worker) (op register number loaded : ℕ) (m : Moved) : Type 0 where
+pub record OwnStepped (v : Worker) (op register number loaded : ℕ) (m : Moved) : Type 0 where
   pub step :
       (memory : List ℕ) (arrived : Bool) (copies : Copies) (fate : Fate)
-      → (op ≡ 17 → loaded ≡ loadWord memory copies number)
+      → (op ≡ opLoad → loaded ≡ loadWord memory copies number)
       → ownStep memory (ownOf op register number) (viewed v arrived copies fate)
       ≡ viewed (m .worker) arrived (copiesAfter (m .outcome) memory copies number) fate

@@ -3,6 +3,7 @@ use borrow.Author.Needs.{needs}
 use borrow.Author.Tests.{eq-eqb}
 use native.Mathlib.Omega.{arith}
 use mathlib.Core.Path.{_∙_}
+use Rattle.protocol.specs.Ops.{opLoad}
 use Rattle.moves.proofs.Owned.{own-moved}
 use Rattle.moves.proofs.own_move.Statement.{statement}
 use Rattle.moves.proofs.own_move.Tie as tie
@@ -30,7 +31,7 @@ returns c =
     let entry = stepped .before .before .before .before .before .before in
     let a = entry .args in
     own-moved (a .v) (a .r) (a .w) (a .memory .now) (a .copied .now) (a .work .now) (kept .keep .last .1 .1 .1 .1 .1 .0) (kept .keep .last .1 .1 .1 .1 .0)
-    (stepped .before .loaded .result) (stepped .step .result) (entry .pre .1) (λ e. stepped .before .loaded .ensures ∙ rw (eq-eqb (a .r .op) 17 e)) (stepped .step .ensures) (kept .keep .ensures)
+    (stepped .before .loaded .result) (stepped .step .result) (entry .pre .1) (λ e. stepped .before .loaded .ensures ∙ rw (eq-eqb (a .r .op) opLoad e)) (stepped .step .ensures) (kept .keep .ensures)
 
 pub own-move-spec : {M : Type 1} → statement M
 own-move-spec =

@@ -1,65 +1,152 @@
+-- `hold`: the holder's step, from what its parts ensure.
 use borrow.Author.Needs.{needs}
 use native.Mathlib.Omega.{arith}
-use Rattle.engine.proofs.Holder.{asking, list-below, next-below, rounds-fit, moves-fit, records-fit, shown, marked}
+use Prim.Native.Nat.{_<_}
+use mathlib.Core.Path.{ap}
+use Rattle.protocol.specs.Format.{workersLimit}
+use Rattle.worker.specs.declared.Synchronised.{Synchronised}
+use Rattle.engine.proofs.Here.{small, place-small, moves-small}
+use Rattle.engine.proofs.Holder.{deciding, rounds-fit, records-fit, list-below, next-below, shown}
 use Rattle.engine.proofs.hold.hold.Statement.{statement}
 use Rattle.engine.proofs.hold.hold.Tie as tie
 
+-- the places that later needs look back to
+abbrev from-decide : tie.After-decide → tie.Start
+from-decide c = c .before .before .before .before .before .before .before .before
+
+abbrev from-bytes : tie.After-settle-bytes → tie.After-decide
+from-bytes c = c .before .before .before .before .before .before .before
+
+abbrev from-step : tie.After-synchronise → tie.After-settle-bytes
+from-step c = c .before .before .before .before .before
+
+abbrev from-record : tie.After-record-step → tie.After-synchronise
+from-record c = c .before .before .before
+
+abbrev from-turn : tie.After-turn-over → tie.After-record-step
+from-turn c = c .before .before .before .before .before .before .before
+
+-- the worker is one of eight
+named : (c : tie.Start) → c .args .w < workersLimit
+named c = small (c .pre .1 .here)
+
+named-late : (c : tie.After-settle-bytes) → from-decide (from-bytes c) .args .w < workersLimit
+named-late c = named (from-decide (from-bytes c))
+
+mul-count : tie.Need-mul-count
+mul-count c = omega (arith, named (c .before .before .before))
+
+element-copy-out-count : tie.Need-element-copy-out-count
+element-copy-out-count c = omega (arith, named (c .before .before .before))
+
 decide-requires : tie.Need-decide-requires
-decide-requires c κs = asking _ _ _ _ _ _ _ _ _ _ _ (c .before .before .before .before .before .pre)
+decide-requires c κs = deciding (c .before .before .before .before .before .before .before .pre .1)
 
 settle-fates-requires : tie.Need-settle-fates-requires
 settle-fates-requires c κs =
-    let p = c .before .before .before .before .before .before .before .before .before .pre in
-    let s = c .before .before .before .decide .ensures .ruled .sound in
-    (p .here .shows .lined .fateCount, asking _ _ _ _ _ _ _ _ _ _ _ p .holder, record { good = s .good; below = s .below; some = s .some; apart = s .apart })
+    let d = c .before .before .before in
+    let p = from-decide d .pre .1 .here in
+    let s = d .decide .ensures .ruled .sound in
+    (p .refines .entries .fates, small p, record { good = s .good; below = s .below; some = s .some; apart = s .apart })
 
 settle-bytes-requires : tie.Need-settle-bytes-requires
-settle-bytes-requires c κs = let p = c .before .before .before .before .before .before .before .before .before .before .before .before .pre in (p .here .shows .bytes .sizes, asking _ _ _ _ _ _ _ _ _ _ _ p .holder)
+settle-bytes-requires c κs =
+    let p = from-decide (c .before .before .before .before .before .before) .pre .1 .here in
+    (p .refines .bytes .sizes, small p)
+
+mul-held : tie.Need-mul-held
+mul-held c = omega (arith, named-late (c .before .before))
+
+element-copy-out-held : tie.Need-element-copy-out-held
+element-copy-out-held c = omega (arith, named-late (c .before .before))
+
+mul-t44 : tie.Need-mul-t44
+mul-t44 c = omega (arith, named-late (c .before .before .before))
+
+element-copy-out-t34 : tie.Need-element-copy-out-t34
+element-copy-out-t34 c = omega (arith, named-late (c .before .before .before))
+
+synchronise-requires : tie.Need-synchronise-requires
+synchronise-requires c κs = place-small (from-decide (from-bytes (c .before .before .before .before)) .pre .1 .here)
+
+mul-places : tie.Need-mul-places
+mul-places c = omega (arith, named-late (from-step (c .before)))
+
+element-write-places : tie.Need-element-write-places
+element-write-places c = omega (arith, named-late (from-step (c .before)))
+
+mul-held-2 : tie.Need-mul-held-2
+mul-held-2 c = omega (arith, named-late (from-step (c .before)))
+
+element-write-held : tie.Need-element-write-held
+element-write-held c = omega (arith, named-late (from-step (c .before)))
 
 record-step-requires : tie.Need-record-step-requires
 record-step-requires c κs =
-    let p = c .before .before .before .before .before .before .before .before .before .before .before .before .before .before .before .before .pre in
-    let q = asking _ _ _ _ _ _ _ _ _ _ _ p in
-    (q .holder, q .operand, rounds-fit _ _ _ _ _ _ _ _ _ _ _ p, let k = records-fit _ _ _ _ _ _ _ _ _ _ _ p in let z = p .here .shows .logged .size in omega arith)
+    let d = from-bytes (from-step (c .before .before)) in
+    let p = from-decide d .pre in
+    let q = deciding (p .1) in
+    let k = records-fit (p .1) (d .decide .ensures) (p .0) in
+    let z = p .1 .here .refines .log .size in
+    (q .holder, q .operand, rounds-fit (p .1), omega arith)
 
 turn-over-requires : tie.Need-turn-over-requires
 turn-over-requires c κs =
-    let p = c .before .before .before .before .before .before .before .before .before .before .before .before .before .before .before .before .before .before .before .before .before .before .before .pre in
-    let x = c .before .before .before .before .before .before .before .before .before .before .before .before .before .before .before .before .before .decide .ensures in
-    (asking _ _ _ _ _ _ _ _ _ _ _ p .holder, rounds-fit _ _ _ _ _ _ _ _ _ _ _ p, list-below _ _ _ _ _ _ _ _ _ _ _ p _ x, x .moved .next .good, next-below _ _ _ _ _ _ _ _ _ _ _ p _ x)
+    let d = from-bytes (from-step (from-record (c .before .before .before .before .before .before))) in
+    let p = from-decide d .pre in
+    let x = d .decide .ensures in
+    (small (p .1 .here), rounds-fit (p .1), list-below (p .1) x (p .0), x .moved .next .good, next-below (p .1) x (p .0))
 
-add-t24 : tie.Need-add-t24
-add-t24 c = let h = moves-fit _ _ _ _ _ _ _ _ _ _ _ (c .before .before .before .before .before .before .before .before .before .before .before .before .before .before .before .before .before .before .before .before .before .before .before .before .before .before .before .pre) in omega arith
+add-t34 : tie.Need-add-t34
+add-t34 c =
+    let d = from-bytes (from-step (from-record (from-turn (c .before .before .before)))) in
+    omega (arith, moves-small (from-decide d .pre .1 .here))
 
 same-length : tie.Need-same-length
-same-length c = c .before .before .before .before .before .before .before .before .before .before .before .before .before .before .settle-bytes .ensures .size
+same-length c = search needs
 
 same-length-2 : tie.Need-same-length-2
 same-length-2 c = search needs
 
 returns : tie.Need-returns
 returns c =
+    let turned = c .before .before .before in
+    let recorded = from-turn turned in
+    let stepped = from-record recorded in
+    let bytes = from-step stepped in
+    let decided = from-bytes bytes in
+    let p = from-decide decided .pre in
     λ h.
-    let k = c .before .before .before .before .before .before .before .before .before .before .record-step .ensures in
-    let z = shown _ _ _ _ _ _ _ _ _ _ _ h _ (c .before .before .before .before .before .before .before .before .before .before .before .before .before .before .before .before .before .before .before .before .before .decide .ensures) _ (c .before .before .before .before .before .before .before .before .before .before .before .before .before .before .before .before .before .settle-fates .ensures) _ _ (c .before .before .before .before .before .before .before .before .before .before .before .before .before .before .settle-bytes .ensures) _ (k .1) _ _ (c .before .before .before .turn-over .ensures) in
-    record {
-      bytes = z .bytes;
-      lined = z .lined;
-      logged = marked _ _ _ _ (k .0) (z .logged);
-      moves = z .moves;
-      rounds = z .rounds;
-    }
+    shown h (decided .decide .ensures) (p .0)
+    (ap (λ (q : Synchronised). q .worker) (stepped .synchronise .ensures))
+    (bytes .before .before .before .settle-fates .ensures)
+    (bytes .settle-bytes .ensures)
+    (ap (λ (q : Synchronised). q .outcome) (stepped .synchronise .ensures))
+    (recorded .record-step .ensures .0)
+    (recorded .record-step .ensures .1)
+    (turned .turn-over .ensures)
 
 pub hold-spec : {M : Type 1} → statement M
 hold-spec =
     tie.close
     (tie.spec
+    mul-count
+    element-copy-out-count
     decide-requires
     settle-fates-requires
     settle-bytes-requires
+    mul-held
+    element-copy-out-held
+    mul-t44
+    element-copy-out-t34
+    synchronise-requires
+    mul-places
+    element-write-places
+    mul-held-2
+    element-write-held
     record-step-requires
     turn-over-requires
-    add-t24
+    add-t34
     same-length
     same-length-2
     returns)

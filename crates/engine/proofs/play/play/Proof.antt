@@ -1,75 +1,137 @@
 -- `play`: the turns of a run.
 use borrow.Author.Needs.{needs}
 use native.Mathlib.Omega.{arith}
-use Prim.Native.Nat.{_-_}
+use Prim.Native.Nat.{ℕ, _-_}
 use mathlib.Core.Path.{_∙_, sym}
+use mathlib.Core.List.{List}
 use lib.ListN.{length}
-use lib.Seq.{take-all}
-use Rattle.engine.specs.Shows.{gathered}
+use Rattle.engine.specs.Kept.{Kept, kept, keptOwn}
 use Rattle.engine.proofs.Playing.{plan-sound, turn-small}
-use Rattle.engine.proofs.Played.{Stands, begins, turning, went-on, syncing, stands-on, ends-here}
+use Rattle.engine.proofs.Played.{Stands, begins, turning, went-on, syncing, stands-on, ends-here, all-played}
 use Rattle.engine.proofs.play.play.Statement.{statement}
 use Rattle.engine.proofs.play.play.Tie as tie
 
 abbrev Inv-loop : tie.InvT-loop
-Inv-loop file n sizes firsts turns memory₀ log₀ work₀ places₀ held₀ registers₀ on₀ can₀ copied₀ t₀ i₀ memory log work places held registers on can copied t i =
-    Stands file turns memory₀ i t places held registers on can copied memory log work
+Inv-loop file n sizes firsts turns memory₀ log₀ work₀ places₀ held₀ registers₀ fates₀ can₀ copied₀ t₀ i₀ memory log work places held registers fates can copied t i =
+    Stands file turns memory₀ i t (kept places held registers fates can copied memory log work)
 
 abbrev μ-loop : tie.MeasureT-loop
-μ-loop file n sizes firsts turns memory₀ log₀ work₀ places₀ held₀ registers₀ on₀ can₀ copied₀ t₀ i₀ memory log work places held registers on can copied t i =
+μ-loop file n sizes firsts turns memory₀ log₀ work₀ places₀ held₀ registers₀ fates₀ can₀ copied₀ t₀ i₀ memory log work places held registers fates can copied t i =
     length turns - i
 
+-- the places that later needs look back to
+abbrev from-loop : tie.At-loop Inv-loop μ-loop → tie.Start Inv-loop μ-loop
+from-loop c = c .before .before .before .before .before .before .before .before
+
+abbrev from-own : tie.After-play-own Inv-loop μ-loop → tie.At-loop Inv-loop μ-loop
+from-own c = c .before .before .before .before .before .before .before .before .before
+
+abbrev from-test : tie.Then1 Inv-loop μ-loop → tie.After-play-own Inv-loop μ-loop
+from-test c = c .before .before .before .before
+
+abbrev from-sync : tie.After-sync Inv-loop μ-loop → tie.Then1 Inv-loop μ-loop
+from-sync c = c .before .before .before .before .before .before .before .before .before .before .before .before
+
+abbrev from-empty : tie.After-is-empty Inv-loop μ-loop → tie.After-sync Inv-loop μ-loop
+from-empty c = c .before .before .before .before .before .before
+
+-- what own steps are lent
+abbrev lent : tie.At-loop Inv-loop μ-loop → List ℕ → List ℕ → Kept
+lent l = keptOwn (l .loop .places) (l .loop .held) (l .loop .registers) (l .loop .can) (l .loop .copied) (l .loop .memory) (l .loop .work)
+
 first-round-requires : tie.Need-first-round-requires Inv-loop μ-loop
-first-round-requires c κs = let p = c .before .before .before .before .before .before .pre in omega (arith, p .workers, plan-sound p .workers)
+first-round-requires c κs = let p = c .before .before .before .before .before .before .pre in omega (arith, p .workers, plan-sound (p .named) .workers)
 
 loop-holds : tie.Need-loop-holds Inv-loop μ-loop
-loop-holds c = let p = c .before .before .before .before .before .before .before .pre in begins p (c .first-round .ensures) (p .bytes) (p .room)
+loop-holds c = begins (c .before .before .before .before .before .before .before .pre) (c .first-round .ensures)
 
 play-own-requires : tie.Need-play-own-requires Inv-loop μ-loop
-play-own-requires c κs = turning (c .before .before .before .before .before .before .before .before .before .before .before .before .before .before .before .before .pre) (c .before .before .before .before .before .before .before .before .loop .inv)
+play-own-requires c κs =
+    let l = c .before .before .before .before .before .before .before .before in
+    turning (from-loop l .pre) (lent l) (l .loop .fates) (l .loop .log) (l .loop .inv)
 
 shared-slice-read-w : tie.Need-shared-slice-read-w Inv-loop μ-loop
 shared-slice-read-w c = search needs
 
 cast-w : tie.Need-cast-w Inv-loop μ-loop
-cast-w c = omega (arith, turn-small (c .before .before .before .before .before .before .before .before .before .before .before .before .before .before .before .before .before .before .before .before .before .pre) _ (c .before .if1 .taken))
+cast-w c = omega (arith, turn-small (from-loop (from-own (from-test (c .before))) .pre .named) _ (c .before .if1 .taken))
 
 sync-requires : tie.Need-sync-requires Inv-loop μ-loop
 sync-requires c κs =
-    let p = c .before .before .before .before .before .before .before .before .before .before .before .before .before .before .before .before .before .before .before .before .before .before .before .before .before .before .before .before .before .before .pre in
-    let w = c .before .before .before .before .before .before .before .before .before .before .before .before .before .play-own .ensures in
-    let l = c .before .before .before .before .before .before .before .before .before .before .if1 .taken in
-    syncing p (went-on p (c .before .before .before .before .before .before .before .before .before .before .before .before .before .before .before .before .before .before .before .before .before .before .loop .inv) w) l (w .stopped l)
+    let u = c .before .before .before .before .before .before .before .before .before .before .before in
+    let o = from-test u in
+    let l = from-own o in
+    let p = from-loop l .pre in
+    let w = o .play-own .ensures in
+    syncing p (went-on p (lent l) (l .loop .fates) (l .loop .log) (l .loop .inv) w) (u .if1 .taken) (w .stopped (u .if1 .taken) (l .loop .fates) (l .loop .log))
 
 add-i : tie.Need-add-i Inv-loop μ-loop
-add-i c = omega (arith, c .before .before .before .before .before .before .before .before .before .before .before .before .before .before .before .if1 .taken, c .before .before .before .before .before .before .before .before .before .before .before .before .before .before .before .before .before .before .before .before .before .before .before .before .before .before .before .before .before .before .before .before .before .before .before .good .1 .1 .1 .1 .0)
+add-i c =
+    let u = from-sync (c .before .before .before .before) in
+    omega (arith, u .if1 .taken, from-loop (from-own (from-test u)) .pre .named .short)
 
 is-empty-requires : tie.Need-is-empty-requires Inv-loop μ-loop
 is-empty-requires c κs = search needs
 
 same-length : tie.Need-same-length Inv-loop μ-loop
-same-length c = stands-on (c .before .before .before .before .before .before .before .before .before .before .before .before .before .before .before .before .before .before .before .before .before .before .before .before .before .before .before .before .before .before .before .before .before .before .before .before .before .before .pre) (c .before .before .before .before .before .before .before .before .before .before .before .before .before .before .before .before .before .before .before .before .before .before .before .before .before .before .before .before .before .before .loop .inv) (c .before .before .before .before .before .before .before .before .before .before .before .before .before .before .before .before .before .before .before .before .before .play-own .ensures) (c .before .before .before .before .before .before .before .before .before .before .before .before .before .before .before .before .before .before .if1 .taken) (c .before .before .before .before .before .before .before .sync .ensures) .shows .bytes .sizes .memoryLength ∙ sym (c .before .before .before .before .before .before .before .before .before .before .before .before .before .before .before .before .before .before .before .before .before .before .before .before .before .before .before .before .before .before .before .before .before .before .before .before .before .before .pre .bytes .memoryLength)
+same-length c =
+    let s = from-empty (c .before) in
+    let u = from-sync s in
+    let l = from-own (from-test u) in
+    let p = from-loop l .pre in
+    stands-on p (lent l) (l .loop .fates) (l .loop .log) (l .loop .inv) (from-test u .play-own .ensures) (u .if1 .taken) (s .sync .ensures) .refines .bytes .sizes .memoryLength
+    ∙ sym (p .bytes .memoryLength)
 
 same-length-2 : tie.Need-same-length-2 Inv-loop μ-loop
-same-length-2 c = stands-on (c .before .before .before .before .before .before .before .before .before .before .before .before .before .before .before .before .before .before .before .before .before .before .before .before .before .before .before .before .before .before .before .before .before .before .before .before .before .before .pre) (c .before .before .before .before .before .before .before .before .before .before .before .before .before .before .before .before .before .before .before .before .before .before .before .before .before .before .before .before .before .before .loop .inv) (c .before .before .before .before .before .before .before .before .before .before .before .before .before .before .before .before .before .before .before .before .before .play-own .ensures) (c .before .before .before .before .before .before .before .before .before .before .before .before .before .before .before .before .before .before .if1 .taken) (c .before .before .before .before .before .before .before .sync .ensures) .shows .logged .size ∙ sym (c .before .before .before .before .before .before .before .before .before .before .before .before .before .before .before .before .before .before .before .before .before .before .before .before .before .before .before .before .before .before .before .before .before .before .before .before .before .before .pre .room)
+same-length-2 c =
+    let s = from-empty (c .before) in
+    let u = from-sync s in
+    let l = from-own (from-test u) in
+    let p = from-loop l .pre in
+    stands-on p (lent l) (l .loop .fates) (l .loop .log) (l .loop .inv) (from-test u .play-own .ensures) (u .if1 .taken) (s .sync .ensures) .refines .log .size
+    ∙ sym (p .room)
 
 same-length-3 : tie.Need-same-length-3 Inv-loop μ-loop
-same-length-3 c = stands-on (c .before .before .before .before .before .before .before .before .before .before .before .before .before .before .before .before .before .before .before .before .before .before .before .before .before .before .before .before .before .before .before .before .before .before .before .before .before .before .pre) (c .before .before .before .before .before .before .before .before .before .before .before .before .before .before .before .before .before .before .before .before .before .before .before .before .before .before .before .before .before .before .loop .inv) (c .before .before .before .before .before .before .before .before .before .before .before .before .before .before .before .before .before .before .before .before .before .play-own .ensures) (c .before .before .before .before .before .before .before .before .before .before .before .before .before .before .before .before .before .before .if1 .taken) (c .before .before .before .before .before .before .before .sync .ensures) .shows .bytes .sizes .workLength ∙ sym (c .before .before .before .before .before .before .before .before .before .before .before .before .before .before .before .before .before .before .before .before .before .before .before .before .before .before .before .before .before .before .before .before .before .before .before .before .before .before .pre .bytes .workLength)
+same-length-3 c =
+    let s = from-empty (c .before) in
+    let u = from-sync s in
+    let l = from-own (from-test u) in
+    let p = from-loop l .pre in
+    stands-on p (lent l) (l .loop .fates) (l .loop .log) (l .loop .inv) (from-test u .play-own .ensures) (u .if1 .taken) (s .sync .ensures) .refines .bytes .sizes .workLength
+    ∙ sym (p .bytes .workLength)
 
 returns : tie.Need-returns Inv-loop μ-loop
-returns c = ends-here (c .before .before .before .before .before .before .before .before .before .before .before .before .before .before .before .before .before .before .before .before .before .before .before .before .before .before .before .before .before .before .before .before .before .before .before .before .before .before .pre) (stands-on (c .before .before .before .before .before .before .before .before .before .before .before .before .before .before .before .before .before .before .before .before .before .before .before .before .before .before .before .before .before .before .before .before .before .before .before .before .before .before .pre) (c .before .before .before .before .before .before .before .before .before .before .before .before .before .before .before .before .before .before .before .before .before .before .before .before .before .before .before .before .before .before .loop .inv) (c .before .before .before .before .before .before .before .before .before .before .before .before .before .before .before .before .before .before .before .before .before .play-own .ensures) (c .before .before .before .before .before .before .before .before .before .before .before .before .before .before .before .before .before .before .if1 .taken) (c .before .before .before .before .before .before .before .sync .ensures)) (c .before .is-empty .ensures) (c .if2 .taken)
+returns c =
+    let s = from-empty (c .before) in
+    let u = from-sync s in
+    let l = from-own (from-test u) in
+    let p = from-loop l .pre in
+    ends-here p
+    (stands-on p (lent l) (l .loop .fates) (l .loop .log) (l .loop .inv) (from-test u .play-own .ensures) (u .if1 .taken) (s .sync .ensures))
+    (c .before .is-empty .ensures) (c .if2 .taken)
 
 loop-less : tie.Need-loop-less Inv-loop μ-loop
-loop-less c = omega (arith, c .before .before .before .before .before .before .before .before .before .before .before .before .before .before .before .before .before .before .if1 .taken, c .before .before .before .before .before .before .before .before .before .before .before .before .before .before .before .before .before .before .before .before .before .play-own .ensures .forward)
+loop-less c =
+    let u = from-sync (from-empty (c .before)) in
+    omega (arith, u .if1 .taken, from-test u .play-own .ensures .forward)
 
 loop-again : tie.Need-loop-again Inv-loop μ-loop
-loop-again c = stands-on (c .before .before .before .before .before .before .before .before .before .before .before .before .before .before .before .before .before .before .before .before .before .before .before .before .before .before .before .before .before .before .before .before .before .before .before .before .before .before .pre) (c .before .before .before .before .before .before .before .before .before .before .before .before .before .before .before .before .before .before .before .before .before .before .before .before .before .before .before .before .before .before .loop .inv) (c .before .before .before .before .before .before .before .before .before .before .before .before .before .before .before .before .before .before .before .before .before .play-own .ensures) (c .before .before .before .before .before .before .before .before .before .before .before .before .before .before .before .before .before .before .if1 .taken) (c .before .before .before .before .before .before .before .sync .ensures)
+loop-again c =
+    let s = from-empty (c .before) in
+    let u = from-sync s in
+    let l = from-own (from-test u) in
+    stands-on (from-loop l .pre) (lent l) (l .loop .fates) (l .loop .log) (l .loop .inv) (from-test u .play-own .ensures) (u .if1 .taken) (s .sync .ensures)
 
 loop-less-2 : tie.Need-loop-less-2 Inv-loop μ-loop
-loop-less-2 c = omega (arith, c .before .before .before .before .before .before .before .before .before .before .before .loop-test .taken, c .if1 .left)
+loop-less-2 c =
+    let o = c .before .before .before .before in
+    omega (arith, o .before .before .before .before .before .before .before .before .loop-test .taken, c .if1 .left)
 
 loop-again-2 : tie.Need-loop-again-2 Inv-loop μ-loop
-loop-again-2 c = went-on (c .before .before .before .before .before .before .before .before .before .before .before .before .before .before .before .before .before .before .before .before .pre) (c .before .before .before .before .before .before .before .before .before .before .before .before .loop .inv) (c .before .before .before .play-own .ensures)
+loop-again-2 c =
+    let o = c .before .before .before .before in
+    let l = from-own o in
+    went-on (from-loop l .pre) (lent l) (l .loop .fates) (l .loop .log) (l .loop .inv) (o .play-own .ensures)
 
 same-length-4 : tie.Need-same-length-4 Inv-loop μ-loop
 same-length-4 c = search needs
@@ -81,15 +143,7 @@ same-length-6 : tie.Need-same-length-6 Inv-loop μ-loop
 same-length-6 c = search needs
 
 returns-2 : tie.Need-returns-2 Inv-loop μ-loop
-returns-2 c =
-    let a = c .before .before .before .before .before .before .before .before .before .args in
-    let s = c .before .loop .inv in
-    record {
-      workers = gathered (c .before .loop .places) (c .before .loop .held) (c .before .loop .registers);
-      marks = c .before .loop .can;
-      copied = c .before .loop .copied;
-      shows = rw (take-all (c .before .loop .i) (a .turns .now) (omega (arith, c .loop-test .left))) at (s .shows);
-    }
+returns-2 c = all-played (from-loop (c .before) .pre) (c .before .loop .inv) (omega (arith, c .loop-test .left))
 
 pub play-spec : {M : Type 1} → statement M
 play-spec =

@@ -1,50 +1,34 @@
 -- `sync`: an arrival, or the holder's step.
 use borrow.Author.Needs.{needs}
 use native.Mathlib.Omega.{arith}
-use Rattle.engine.proofs.Stepping.{small, place-here, moves-small, list-some-here, first-small, holding}
-use Rattle.engine.proofs.Synced.{arrived, stepped}
+use Rattle.engine.proofs.Here.{small, moves-small, list-some, first-small, sync-here}
+use Rattle.engine.proofs.ArriveSimulates.{arrive-simulates}
 use Rattle.engine.proofs.sync.sync.Statement.{statement}
 use Rattle.engine.proofs.sync.sync.Tie as tie
 
+-- where the branch to an arrival begins, and the entry
+abbrev from-arrive : tie.After-arrive-arg → tie.Then1
+from-arrive c = c .before .before .before .before
+
+abbrev from-branch : tie.Then1 → tie.Start
+from-branch c = c .before .before .before .before .before
+
 arrive-requires : tie.Need-arrive-requires
 arrive-requires c κs =
-    let h = c .before .before .before .before .before .before .before .before .pre .stepping in
-    (small h, c .before .before .before .if1 .taken, list-some-here h, first-small h)
+    let a = from-branch (from-arrive c) .pre .here in
+    (small a, from-arrive c .if1 .taken, list-some a, first-small a)
 
-add-t19 : tie.Need-add-t19
-add-t19 c = omega (arith, moves-small (c .before .before .before .before .before .before .before .before .before .before .pre .stepping))
+add-t20 : tie.Need-add-t20
+add-t20 c = omega (arith, moves-small (from-branch (from-arrive (c .before .before)) .pre .here))
 
 returns : tie.Need-returns
-returns c = λ h. arrived h (c .before .before .before .before .before .if1 .taken) (c .before .arrive .ensures .0) (c .before .arrive .ensures .1)
-
-mul-hold : tie.Need-mul-hold
-mul-hold c = omega (arith, small (c .before .before .before .before .before .pre .stepping))
-
-element-copy-out-hold : tie.Need-element-copy-out-hold
-element-copy-out-hold c = omega (arith, small (c .before .before .before .before .before .pre .stepping))
+returns c =
+    λ h.
+    let e = c .before .arrive .ensures in
+    arrive-simulates (h .here) (sync-here (h .here) (h .fetched) (h .late)) (from-arrive (c .before .before) .if1 .taken) (e .0) (e .1)
 
 hold-requires : tie.Need-hold-requires
-hold-requires c κs =
-    let h = c .before .before .before .before .before .before .before .before .before .before .before .pre in
-    holding (h .stepping) (h .fetched) (h .late) (omega (arith, c .before .before .before .before .before .before .if1 .left))
-
-mul-places : tie.Need-mul-places
-mul-places c = omega (arith, small (c .before .before .before .before .before .before .before .before .before .before .before .before .before .before .before .before .pre .stepping))
-
-element-copy-out-places : tie.Need-element-copy-out-places
-element-copy-out-places c = omega (arith, small (c .before .before .before .before .before .before .before .before .before .before .before .before .before .before .before .before .pre .stepping))
-
-add-places : tie.Need-add-places
-add-places c = omega (arith, place-here (c .before .before .before .before .before .before .before .before .before .before .before .before .before .before .before .before .before .pre .stepping))
-
-element-write-places : tie.Need-element-write-places
-element-write-places c = omega (arith, small (c .before .before .before .before .before .before .before .before .before .before .before .before .before .before .before .before .before .pre .stepping))
-
-mul-held : tie.Need-mul-held
-mul-held c = omega (arith, small (c .before .before .before .before .before .before .before .before .before .before .before .before .before .before .before .before .before .pre .stepping))
-
-element-write-held : tie.Need-element-write-held
-element-write-held c = omega (arith, small (c .before .before .before .before .before .before .before .before .before .before .before .before .before .before .before .before .before .pre .stepping))
+hold-requires c κs = search needs
 
 same-length : tie.Need-same-length
 same-length c = search needs
@@ -53,24 +37,9 @@ same-length-2 : tie.Need-same-length-2
 same-length-2 c = search needs
 
 returns-2 : tie.Need-returns-2
-returns-2 c = λ h. stepped h (omega (arith, c .before .before .before .before .before .before .before .before .before .before .before .before .before .if1 .left)) (c .before .before .before .before .before .before .hold .ensures)
+returns-2 c = search needs
 
 pub sync-spec : {M : Type 1} → statement M
 sync-spec =
     tie.close
-    (tie.spec
-    arrive-requires
-    add-t19
-    returns
-    mul-hold
-    element-copy-out-hold
-    hold-requires
-    mul-places
-    element-copy-out-places
-    add-places
-    element-write-places
-    mul-held
-    element-write-held
-    same-length
-    same-length-2
-    returns-2)
+    (tie.spec arrive-requires add-t20 returns hold-requires same-length same-length-2 returns-2)

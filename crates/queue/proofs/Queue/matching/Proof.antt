@@ -14,10 +14,10 @@ use Rattle.queue.proofs.Queue.matching.Statement.{statement}
 use Rattle.queue.proofs.Queue.matching.Tie as tie
 
 abbrev Inv-loop : tie.InvT-loop
-Inv-loop on key wanted left₀ kept₀ left kept = Scan (matches wanted on key) (listOf left₀) left kept × Below 8 (listOf left)
+Inv-loop entries entry wanted left₀ kept₀ left kept = Scan (matches wanted entries entry) (listOf left₀) left kept × Below 8 (listOf left)
 
 abbrev μ-loop : tie.MeasureT-loop
-μ-loop on key wanted left₀ kept₀ left kept = length (listOf left)
+μ-loop entries entry wanted left₀ kept₀ left kept = length (listOf left)
 
 some : (c : tie.Then1 Inv-loop μ-loop) → 0 < length (listOf (c .before .before .loop .left))
 some c = some-left (c .before .before .loop .left) (c .before .is-empty .ensures) (c .if1 .taken)
@@ -28,7 +28,7 @@ empty-requires c κs = search needs
 loop-holds : tie.Need-loop-holds Inv-loop μ-loop
 loop-holds c =
     let a = c .before .args in
-    (scan-start (matches (a .wanted) (now (a .on)) (a .key)) (c .before .pre .0) (c .empty .ensures), c .before .pre .1)
+    (scan-start (matches (a .wanted) (now (a .entries)) (a .entry)) (c .before .pre .0) (c .empty .ensures), c .before .pre .1)
 
 is-empty-requires : tie.Need-is-empty-requires Inv-loop μ-loop
 is-empty-requires c κs = search needs
@@ -65,7 +65,7 @@ loop-again c =
     let taken = c .before .before .before .first in
     let rest = c .rest .ensures in
     let a = c .before .before .before .before .before .before .before .before .args in
-    let tested = sym (beq-cond (eqb (getD (now (a .on)) (taken .result) 0) (a .key)) (a .wanted)) in
+    let tested = sym (beq-cond (eqb (getD (now (a .entries)) (taken .result) 0) (a .entry)) (a .wanted)) in
     let h = some (c .before .before .before .before) in (
       ⊎-elim (λ z. scan-keep (at .inv .0) h rest (taken .ensures) (tested ∙ z .0 .taken) (z .1 .ensures) (z .2))
           (λ z. scan-pass (at .inv .0) h rest (taken .ensures) (tested ∙ z .0 .left) (z .1))

@@ -11,10 +11,10 @@ use Rattle.rules.proofs.fates.free.Statement.{statement}
 use Rattle.rules.proofs.fates.free.Tie as tie
 
 abbrev Inv-loop : tie.InvT-loop
-Inv-loop on₀ left₀ on left = Walk 0 (listOf left₀) on₀ left on
+Inv-loop fates₀ left₀ fates left = Walk 0 (listOf left₀) fates₀ left fates
 
 abbrev μ-loop : tie.MeasureT-loop
-μ-loop on₀ left₀ on left = length (listOf left)
+μ-loop fates₀ left₀ fates left = length (listOf left)
 
 some : (c : tie.Then1 Inv-loop μ-loop) → 0 < length (listOf (c .before .before .loop .left))
 some c = some-left (c .before .before .loop .left) (c .before .is-empty .ensures) (c .if1 .taken)
@@ -28,11 +28,11 @@ is-empty-requires c κs = search needs
 first-requires : tie.Need-first-requires Inv-loop μ-loop
 first-requires c κs = some c
 
-mul-on : tie.Need-mul-on Inv-loop μ-loop
-mul-on c = omega (arith, walk-worker (c .before .before .before .loop .inv) (some (c .before)) (c .first .ensures))
+mul-fates : tie.Need-mul-fates Inv-loop μ-loop
+mul-fates c = omega (arith, walk-worker (c .before .before .before .loop .inv) (some (c .before)) (c .first .ensures))
 
-element-write-on : tie.Need-element-write-on Inv-loop μ-loop
-element-write-on c = omega (arith, walk-worker (c .before .before .before .loop .inv) (some (c .before)) (c .first .ensures))
+element-write-fates : tie.Need-element-write-fates Inv-loop μ-loop
+element-write-fates c = omega (arith, walk-worker (c .before .before .before .loop .inv) (some (c .before)) (c .first .ensures))
 
 rest-requires : tie.Need-rest-requires Inv-loop μ-loop
 rest-requires c κs = (c .before .before .before .loop .inv .left, some (c .before))
@@ -55,8 +55,8 @@ free-spec =
     loop-holds
     is-empty-requires
     first-requires
-    mul-on
-    element-write-on
+    mul-fates
+    element-write-fates
     rest-requires
     loop-less
     loop-again

@@ -24,11 +24,11 @@ returns c = let s = c .before .before .before in
 first-requires : tie.Need-first-requires
 first-requires c κs = c .before .before .pre .some (c .if2 .taken)
 
-mul-on : tie.Need-mul-on
-mul-on c = omega (arith, worker c)
+mul-fates : tie.Need-mul-fates
+mul-fates c = omega (arith, worker c)
 
-element-write-on : tie.Need-element-write-on
-element-write-on c = omega (arith, worker c)
+element-write-fates : tie.Need-element-write-fates
+element-write-fates c = omega (arith, worker c)
 
 returns-2 : tie.Need-returns-2
 returns-2 c = let s = c .before .before .before in
@@ -41,4 +41,4 @@ returns-3 c = rw (c .if2 .left, c .before .if1 .left)
 pub free-moved-spec : {M : Type 1} → statement M
 free-moved-spec =
     tie.close
-    (tie.spec free-requires returns first-requires mul-on element-write-on returns-2 returns-3)
+    (tie.spec free-requires returns first-requires mul-fates element-write-fates returns-2 returns-3)

@@ -11,17 +11,17 @@ code-after-requires c κs = search needs
 free-moved-requires : tie.Need-free-moved-requires
 free-moved-requires c κs = search needs
 
-mul-on : tie.Need-mul-on
-mul-on c = search needs
+mul-fates : tie.Need-mul-fates
+mul-fates c = search needs
 
-element-write-on : tie.Need-element-write-on
-element-write-on c = search needs
+element-write-fates : tie.Need-element-write-fates
+element-write-fates c = search needs
 
 returns : tie.Need-returns
 returns c = let s = c .before .before .before .before in
     let a = s .args in
-    settled (now (a .on)) (a .r) (a .h) _ _ (s .pre .0) (s .pre .1) (c .free-moved .ensures) (c .before .before .code-after .ensures)
+    settled (now (a .fates)) (a .r) (a .h) _ _ (s .pre .0) (s .pre .1) (c .free-moved .ensures) (c .before .before .code-after .ensures)
 
 pub settle-fates-spec : {M : Type 1} → statement M
 settle-fates-spec =
-    tie.close (tie.spec code-after-requires free-moved-requires mul-on element-write-on returns)
+    tie.close (tie.spec code-after-requires free-moved-requires mul-fates element-write-fates returns)

@@ -16,7 +16,7 @@ returns : tie.Need-returns
 returns c = let s = c .before .before in
     let a = s .args in
     let joins = c .before .if1 .taken in
-    rw (not-both (a .wakes) (a .joins) (s .pre .apart) joins, joins, s .pre .queue joins, without-kept (λ w. eqb (getD (now (a .on)) w 0) (a .key)) (listOf (a .waiting)))
+    rw (not-both (a .wakes) (a .joins) (s .pre .apart) joins, joins, s .pre .queue joins, without-kept (λ w. eqb (getD (now (a .fates)) w 0) (a .code)) (listOf (a .waiting)))
     (c .reject .ensures)
 
 first-requires : tie.Need-first-requires

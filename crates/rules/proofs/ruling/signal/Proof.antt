@@ -30,12 +30,12 @@ is-empty-requires : tie.Need-is-empty-requires
 is-empty-requires c κs = search needs
 
 -- however the code works out whom to ask for
-found-by : (on ws : List ℕ) {qs : List ℕ} (key asked : ℕ) → qs ≡ found on ws key → key ≡ asked → qs ≡ found on ws asked
-found-by on ws key asked e k = e ∙ ap (λ (n : ℕ). found on ws n) k
+found-by : (fates ws : List ℕ) {qs : List ℕ} (code asked : ℕ) → qs ≡ found fates ws code → code ≡ asked → qs ≡ found fates ws asked
+found-by fates ws code asked e k = e ∙ ap (λ (n : ℕ). found fates ws n) k
 
 -- the queued are those who wait on the condition
-asked : (c : tie.After-select) → listOf (c .select .result) ≡ found (now (c .before .before .args .on)) (listOf (c .before .before .args .waiting)) (conditionCode (c .before .before .args .condition))
-asked c = found-by (now (c .before .before .args .on)) (listOf (c .before .before .args .waiting)) _ (conditionCode (c .before .before .args .condition)) (c .select .ensures .list) (omega arith)
+asked : (c : tie.After-select) → listOf (c .select .result) ≡ found (now (c .before .before .args .fates)) (listOf (c .before .before .args .waiting)) (conditionCode (c .before .before .args .condition))
+asked c = found-by (now (c .before .before .args .fates)) (listOf (c .before .before .args .waiting)) _ (conditionCode (c .before .before .args .condition)) (c .select .ensures .list) (omega arith)
 
 returns : tie.Need-returns
 returns c =

@@ -14,7 +14,7 @@ failed-requires : tie.Need-failed-requires
 failed-requires c κs = search needs
 
 returns : tie.Need-returns
-returns c = λ number queue on. rw (eq-eqb (c .before .before .args .count) 0 (c .before .if1 .taken)) (c .failed .ensures number queue on)
+returns c = λ number queue fates. rw (eq-eqb (c .before .before .args .count) 0 (c .before .if1 .taken)) (c .failed .ensures number queue fates)
 
 empty-requires : tie.Need-empty-requires
 empty-requires c κs = search needs
@@ -26,7 +26,7 @@ add-t7 : tie.Need-add-t7
 add-t7 c = search needs
 
 returns-2 : tie.Need-returns-2
-returns-2 c = λ number queue on.
+returns-2 c = λ number queue fates.
     let a = c .before .before .args in
     let f = waiting (onCondition (a .condition)) in
     record {

@@ -4,13 +4,13 @@ use native.Mathlib.Omega.{arith}
 use Prim.Native.Nat.{_+_, _-_, _≤_}
 use mathlib.Core.Logic.{⊎-elim}
 use mathlib.Core.Path.{_≡_}
-use Rattle.token.specs.Passes.{Spans}
+use Rattle.token.specs.Passes.{Spanned}
 use Rattle.token.proofs.Passing.{spans-more}
 use Rattle.token.proofs.passes.span.Statement.{statement}
 use Rattle.token.proofs.passes.span.Tie as tie
 
 abbrev Inv-loop : tie.InvT-loop
-Inv-loop turns at least₀ most₀ k₀ least most k = (k ≤ 64) × Spans turns at (at + k) least most
+Inv-loop turns at least₀ most₀ k₀ least most k = (k ≤ 64) × Spanned turns at (at + k) least most
 
 abbrev μ-loop : tie.MeasureT-loop
 μ-loop turns at least₀ most₀ k₀ least most k = 64 - k
