@@ -65,6 +65,6 @@ pub fn close_buffers(
         records: c.records as u16,
     };
     clear_behind(log, c.records);
-    pages::clear(work);
+    words::clear(work);
     write_report(report, tallies, fates);
 }

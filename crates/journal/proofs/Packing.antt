@@ -11,7 +11,8 @@ use lib.Seq.{sets, sets-eq, take-at, length-take-le}
 use Rattle.protocol.specs.Format.{countFrom}
 use Rattle.protocol.specs.Rounds.{Entry}
 use Rattle.protocol.specs.Report.{twoBytes, entryBytes, logBytes}
-use Rattle.journal.specs.Bytes.{entryAs, bytesOf, shown, fatesFrom, talliesOf}
+use Rattle.words.specs.Bytes.{bytesOf}
+use Rattle.journal.specs.Bytes.{entryAs, shown, fatesFrom, talliesOf}
 
 -- the lowest byte, and the number of the others
 lowest : (a m : ℕ) → a < 256 → (a + 256 * m) % 256 ≡ a

@@ -1,7 +1,7 @@
 -- What the log's records and the report are as bytes, from the code's numbers.
-use Prim.Native.Nat.{ℕ, zero, suc, _+_, _/_, _%_}
+use Prim.Native.Nat.{ℕ, _+_, _%_}
 use mathlib.Core.Bool.{cond}
-use mathlib.Core.List.{List, [], _∷_, _++_, map}
+use mathlib.Core.List.{List, _∷_, _++_, map}
 use lib.Dec.{ltb, leb}
 use lib.ListN.{getD}
 use Rattle.protocol.specs.Format.{countFrom}
@@ -11,11 +11,6 @@ use Rattle.journal.specs.declared.report.Tallies.{Tallies}
 
 abbrev pub entryAs : ℕ → ℕ → ℕ → ℕ → ℕ → Entry
 entryAs r w o k c = record { round = r; worker = w; op = o; number = k; outcome = c }
-
--- so many bytes of a number, the lowest first
-abbrev pub bytesOf : ℕ → ℕ → List ℕ
-bytesOf zero n = []
-bytesOf (suc k) n = n % 256 ∷ bytesOf k (n / 256)
 
 -- a fate's byte, by its code: 0, 1 and 2 as they are, 3 for an even one (a condition), 4 for an odd one (a barrier)
 abbrev pub shown : ℕ → ℕ → ℕ → ℕ

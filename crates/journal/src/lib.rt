@@ -1,4 +1,3 @@
 // The log and the report as bytes.
-pub mod bytes;
 pub mod log;
 pub mod report;

@@ -4,7 +4,8 @@ ghost use mathlib.Core.List.{_++_};
 ghost use Prim.Native.Nat.{_-_, _*_, _≤_};
 ghost use lib.ListN.{length, take, replicate};
 ghost use Rattle.protocol.specs.Report.{entryBytes};
-ghost use Rattle.journal.specs.Bytes.{bytesOf, entryAs};
+ghost use Rattle.words.specs.Bytes.{bytesOf};
+ghost use Rattle.journal.specs.Bytes.{entryAs};
 
 // A record as one number, its first byte lowest: mark 4D 4C, round, worker, op, number, outcome.
 pub fn packed(round: u16, worker: u8, op: u8, number: u8, outcome: u8) -> u64
@@ -21,5 +22,5 @@ pub fn clear_behind(log: &mut [u8], records: usize)
     ensures { λ r. ⌜ now (log .exit) ≡ take (8 * records) (now (log .entry)) ++ replicate (length (now (log .entry)) - 8 * records) 0 ⌝ }
 {
     let at = 8 * records;
-    pages::clear(&mut log[at..]);
+    words::clear(&mut log[at..]);
 }

@@ -1,8 +1,9 @@
 // The report's 16 bytes.
-use crate::bytes::put;
+use words::put;
 ghost use mathlib.Core.Path.{_≡_};
 ghost use lib.ListN.{length};
-ghost use Rattle.journal.specs.Bytes.{bytesOf, shown, fatesFrom, talliesOf, reportOf};
+ghost use Rattle.words.specs.Bytes.{bytesOf};
+ghost use Rattle.journal.specs.Bytes.{shown, fatesFrom, talliesOf, reportOf};
 
 // What a run counts: the turns that moved, the rounds that are completed, the records of the log.
 pub struct Counts {

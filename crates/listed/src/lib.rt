@@ -4,10 +4,10 @@ mod turns;
 
 use crate::run::run_listed;
 use libc::STDOUT_FILENO;
-use plan::decode::pair;
 use text::lines::write_end;
 use text::lines::write_log;
 use text::lines::write_refusal;
+use words::word;
 ghost use mathlib.Core.Path.{_≡_};
 ghost use Prim.Native.Nat.{_≤_};
 ghost use lib.ListN.{length, replicate};
@@ -38,7 +38,7 @@ pub fn write_listing(file: &[u8], memory: &mut [u8], text: &mut [u8]) -> Written
         let length = write_refusal(code, text, 0);
         return Written { code, length };
     }
-    let records = pair(report[6], report[7]) as usize;
+    let records = word(report[6], report[7]) as usize;
     let end = write_log(&log, records, text, 0);
     let length = write_end(&report, text, end);
     Written { code, length }

@@ -1,12 +1,14 @@
 // Page copies with their twins, in bytes that the caller lends. `work` holds, for each of 8 workers and each of 8 pages, a
 // working copy of 256 bytes and then its twin. A slot is a worker's place for one page, 8 × worker + page, and `copied` marks
 // the slots in use.
+use words::high_byte;
+use words::low_byte;
+use words::word;
 ghost use mathlib.Core.Path.{_≡_};
 ghost use mathlib.Core.List.{List};
 ghost use Prim.Native.Nat.{ℕ, _+_, _*_, _<_, _≤_, _/_, _%_};
-ghost use lib.ListN.{length, drop, set, replicate};
+ghost use lib.ListN.{length, drop, set};
 ghost use lib.Seq.{paste};
-ghost use Rattle.protocol.specs.Format.{word};
 ghost use Rattle.protocol.specs.Pages.{pageSize, pageCount, page, noCopies, opened, loadByte, loadWord, storeByte, storeWord, commit};
 ghost use Rattle.pages.specs.Copies.{Sizes, slotCopy, copiesIn, anyCopied, SlotHolds, WorkerHolds, Committed};
 
@@ -20,17 +22,6 @@ impl Page {
     pub const PAIR: usize = 2 * Page::SIZE;
 }
 
-// Sets every byte to 0.
-pub fn clear(bytes: &mut [u8])
-    ensures { λ _. ⌜ now (bytes .exit) ≡ replicate (length (now (bytes .entry))) 0 ⌝ }
-{
-    let mut i = 0;
-    while i < bytes.len() {
-        bytes[i] = 0;
-        i += 1;
-    }
-}
-
 // Copies a page's worth of bytes.
 fn copy_page(from: &[u8], start: usize, into: &mut [u8], at: usize)
     requires { ⌜ (start + pageSize ≤ length (now from)) × (at + pageSize ≤ length (now into)) ⌝ }
@@ -41,24 +32,6 @@ fn copy_page(from: &[u8], start: usize, into: &mut [u8], at: usize)
         into[at + i] = from[start + i];
         i += 1;
     }
-}
-
-fn word_of(low: u8, high: u8) -> u16
-    ensures { λ r. ⌜ r ≡ word low high ⌝ }
-{
-    low as u16 + 256 * high as u16
-}
-
-fn low_byte(number: u16) -> u8
-    ensures { λ r. ⌜ r ≡ number % 256 ⌝ }
-{
-    (number % 256) as u8
-}
-
-fn high_byte(number: u16) -> u8
-    ensures { λ r. ⌜ r ≡ number / 256 ⌝ }
-{
-    (number / 256) as u8
 }
 
 // Both bytes are read before the choice: no branch waits for the mark.
@@ -77,7 +50,7 @@ pub fn load(memory: &[u8], work: &[u8], copied: &[bool; 64], w: usize, address: 
     requires { ⌜ Sizes (now memory) (now work) × (w < 8) × (address ≤ 2046) ⌝ }
     ensures { λ r. ⌜ r ≡ loadWord (now (memory .entry)) (copiesIn (now (copied .entry)) (now (work .entry)) w) address ⌝ }
 {
-    word_of(
+    word(
         load_byte(memory, work, copied, w, address),
         load_byte(memory, work, copied, w, address + 1),
     )

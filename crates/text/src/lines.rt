@@ -2,7 +2,7 @@
 use crate::wide;
 use crate::write_bytes;
 use crate::write_line;
-use plan::decode::pair;
+use words::word;
 ghost use mathlib.Core.List.{[], _∷_, _++_};
 ghost use Prim.Native.Nat.{_+_, _*_, _/_, _%_, _≤_};
 ghost use lib.ListN.{length};
@@ -17,7 +17,7 @@ fn write_record(log: &[u8], position: usize, text: &mut [u8], at: usize) -> usiz
     ensures { λ r. ⌜ r ≤ at + 22 ⌝ }
 {
     let columns = [
-        pair(log[position + 2], log[position + 3]) as u64,
+        word(log[position + 2], log[position + 3]) as u64,
         wide(log[position + 4]),
         wide(log[position + 5]),
         wide(log[position + 6]),
@@ -60,7 +60,7 @@ pub fn write_end(report: &[u8; 16], text: &mut [u8], at: usize) -> usize
     ensures { λ r. ⌜ Wrote (now (text .entry)) at (lastLine (now (report .entry))) (now (text .exit)) r ⌝ }
     ensures { λ r. ⌜ r ≤ at + 15 ⌝ }
 {
-    let moves = [pair(report[2], report[3]) as u64];
+    let moves = [word(report[2], report[3]) as u64];
     let end = write_end_word(report[0], text, at);
     write_line(&moves, text, end)
 }

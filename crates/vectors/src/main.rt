@@ -5,9 +5,9 @@ mod memory;
 use crate::memory::memory_sum;
 use libc::STDOUT_FILENO;
 use listed::list;
-use plan::decode::pair;
 use text::write_bytes;
 use text::write_line;
+use words::word;
 ghost use Prim.Native.Nat.{_≤_};
 ghost use lib.ListN.{length};
 
@@ -22,7 +22,7 @@ fn read_number(fd: i32) -> Number {
     if length < 2 {
         return Number::CutShort;
     }
-    Number::Read(pair(bytes[0], bytes[1]))
+    Number::Read(word(bytes[0], bytes[1]))
 }
 
 // A word with a space behind it, and a number: the room is for any.

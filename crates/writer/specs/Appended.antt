@@ -4,7 +4,7 @@ use mathlib.Core.Path.{_≡_}
 use mathlib.Core.List.{List}
 use lib.ListN.{length}
 use lib.Seq.{sets}
-use Rattle.journal.specs.Bytes.{bytesOf}
+use Rattle.words.specs.Bytes.{bytesOf}
 
 -- the log has room for a record behind those that it has
 abbrev pub Fits : List ℕ → ℕ → Type 0

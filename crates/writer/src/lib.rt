@@ -1,6 +1,6 @@
 // The log writer: it carries the lent log and its fill mark, the number of records that the log has. A function that takes or
 // makes one is proved by a walk of its MIR, so there are two; `append_at`, which writes the bytes, is covered.
-use journal::bytes::put;
+use words::put;
 ghost use Rattle.writer.specs.Appended.{Fits, Appended};
 
 pub struct LogWriter<'a> {

@@ -32,14 +32,14 @@ returns c =
     let entry = refused .before .before .before .before .before .before .before .before .before .before .before .before in
     written _ run (wrote-as (wrote .write-refusal .ensures .0) (refused-text _ _ (run .code) (refused .if1 .taken))) (omega (arith, wrote .write-refusal .ensures .1, entry .pre .1))
 
-array-read-pair : tie.Need-array-read-pair
-array-read-pair c = search needs
+array-read-word : tie.Need-array-read-word
+array-read-word c = search needs
 
-array-read-pair-2 : tie.Need-array-read-pair-2
-array-read-pair-2 c = search needs
+array-read-word-2 : tie.Need-array-read-word-2
+array-read-word-2 c = search needs
 
-pair-requires : tie.Need-pair-requires
-pair-requires c κs = search needs
+word-requires : tie.Need-word-requires
+word-requires c κs = search needs
 
 cast-records : tie.Need-cast-records
 cast-records c = search needs
@@ -48,25 +48,25 @@ slice-aggregate-write-log : tie.Need-slice-aggregate-write-log
 slice-aggregate-write-log c = search needs
 
 -- what the log and the report of an accepted plan tell
-told : (c : tie.After-pair)
+told : (c : tie.After-word)
     → Told (c .before .before .before .before .before .before .before .before .before .before .before .before .before .args .file .now) (c .before .before .before .before .before .before .run-listed .last .1 .1 .0) (c .before .before .before .before .before .before .run-listed .last .1 .1 .1 .0)
 told c = accepted-text _ (c .before .before .before .before .before .before .run-listed .ensures) (c .before .if1 .left)
 
-few : (c : tie.After-pair) → c .pair .result ≤ 1032
-few c = omega (arith, c .pair .ensures, told c .records)
+few : (c : tie.After-word) → c .word .result ≤ 1032
+few c = omega (arith, c .word .ensures, told c .records)
 
 write-log-requires : tie.Need-write-log-requires
 write-log-requires c κs =
-    let pair = c .before .before in
-    let run = pair .before .before .before .before .before .before in
-    (omega (arith, few pair, run .run-listed .kept), omega (arith, few pair, run .before .before .before .before .before .before .before .pre .1))
+    let word = c .before .before in
+    let run = word .before .before .before .before .before .before in
+    (omega (arith, few word, run .run-listed .kept), omega (arith, few word, run .before .before .before .before .before .before .before .pre .1))
 
 write-end-requires : tie.Need-write-end-requires
 write-end-requires c κs =
     let wrote = c .before .before .before .before in
-    let pair = wrote .before .before .before in
-    let run = pair .before .before .before .before .before .before in
-    omega (arith, few pair, wrote .write-log .ensures .1, wrote-length (wrote .write-log .ensures .0), run .before .before .before .before .before .before .before .pre .1)
+    let word = wrote .before .before .before in
+    let run = word .before .before .before .before .before .before in
+    omega (arith, few word, wrote .write-log .ensures .1, wrote-length (wrote .write-log .ensures .0), run .before .before .before .before .before .before .before .pre .1)
 
 same-length-3 : tie.Need-same-length-3
 same-length-3 c = search needs
@@ -78,11 +78,11 @@ returns-2 : tie.Need-returns-2
 returns-2 c =
     let ended = c .before .before in
     let wrote = ended .before .before .before .before .before in
-    let pair = wrote .before .before .before in
-    let run = pair .before .before .before .before .before .before in
+    let word = wrote .before .before .before in
+    let run = word .before .before .before .before .before .before in
     written _ (run .run-listed .ensures)
-    (wrote-as (wrote-both _ _ (wrote .write-log .ensures .0) (ended .write-end .ensures .0)) (told pair .text _ (pair .pair .ensures)))
-    (omega (arith, few pair, wrote .write-log .ensures .1, ended .write-end .ensures .1, run .before .before .before .before .before .before .before .pre .1))
+    (wrote-as (wrote-both _ _ (wrote .write-log .ensures .0) (ended .write-end .ensures .0)) (told word .text _ (word .word .ensures)))
+    (omega (arith, few word, wrote .write-log .ensures .1, ended .write-end .ensures .1, run .before .before .before .before .before .before .before .pre .1))
 
 pub write-listing-spec : {M : Type 1} → statement M
 write-listing-spec =
@@ -95,9 +95,9 @@ write-listing-spec =
     same-length
     same-length-2
     returns
-    array-read-pair
-    array-read-pair-2
-    pair-requires
+    array-read-word
+    array-read-word-2
+    word-requires
     cast-records
     slice-aggregate-write-log
     write-log-requires

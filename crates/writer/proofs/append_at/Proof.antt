@@ -5,7 +5,7 @@ use native.Mathlib.Omega.{arith}
 use mathlib.Core.Path.{_≡_}
 use mathlib.Core.List.{List}
 use lib.Seq.{sets}
-use Rattle.journal.specs.Bytes.{bytesOf}
+use Rattle.words.specs.Bytes.{bytesOf}
 use Rattle.writer.proofs.append_at.Statement.{statement}
 use Rattle.writer.proofs.append_at.Tie as tie
 

@@ -5,14 +5,14 @@ use Rattle.text.proofs.Numbers.{moves-length, end-line}
 use Rattle.text.proofs.lines.write_end.Statement.{statement}
 use Rattle.text.proofs.lines.write_end.Tie as tie
 
-element-copy-out-pair : tie.Need-element-copy-out-pair
-element-copy-out-pair c = search needs
+element-copy-out-word : tie.Need-element-copy-out-word
+element-copy-out-word c = search needs
 
-element-copy-out-pair-2 : tie.Need-element-copy-out-pair-2
-element-copy-out-pair-2 c = search needs
+element-copy-out-word-2 : tie.Need-element-copy-out-word-2
+element-copy-out-word-2 c = search needs
 
-pair-requires : tie.Need-pair-requires
-pair-requires c κs = search needs
+word-requires : tie.Need-word-requires
+word-requires c κs = search needs
 
 cast-t13 : tie.Need-cast-t13
 cast-t13 c = search needs
@@ -29,8 +29,8 @@ slice-aggregate-write-line c = search needs
 write-line-requires : tie.Need-write-line-requires
 write-line-requires c κs =
     let wrote = c .before .before .before .before in
-    let pair = wrote .before .before .before in
-    omega (arith, pair .before .before .before .before .pre, wrote .write-end-word .ensures .1, wrote-length (wrote .write-end-word .ensures .0), moves-length (pair .pair .result) (omega (arith, pair .pair .ok)))
+    let word = wrote .before .before .before in
+    omega (arith, word .before .before .before .before .pre, wrote .write-end-word .ensures .1, wrote-length (wrote .write-end-word .ensures .0), moves-length (word .word .result) (omega (arith, word .word .ok)))
 
 same-length : tie.Need-same-length
 same-length c = search needs
@@ -39,18 +39,18 @@ returns : tie.Need-returns
 returns c =
     let line-wrote = c .before .before in
     let wrote = line-wrote .before .before .before .before .before in
-    let pair = wrote .before .before .before .pair in (
-      wrote-as (wrote-both _ _ (wrote .write-end-word .ensures .0) (line-wrote .write-line .ensures)) (end-line _ _ _ (pair .ensures)),
-      omega (arith, wrote .write-end-word .ensures .1, line-wrote .write-line .ensures .ends, moves-length (pair .result) (omega (arith, pair .ok))),
+    let word = wrote .before .before .before .word in (
+      wrote-as (wrote-both _ _ (wrote .write-end-word .ensures .0) (line-wrote .write-line .ensures)) (end-line _ _ _ (word .ensures)),
+      omega (arith, wrote .write-end-word .ensures .1, line-wrote .write-line .ensures .ends, moves-length (word .result) (omega (arith, word .ok))),
     )
 
 pub write-end-spec : {M : Type 1} → statement M
 write-end-spec =
     tie.close
     (tie.spec
-    element-copy-out-pair
-    element-copy-out-pair-2
-    pair-requires
+    element-copy-out-word
+    element-copy-out-word-2
+    word-requires
     cast-t13
     element-copy-out-write-end-word
     write-end-word-requires

@@ -9,20 +9,20 @@ use Rattle.text.proofs.Numbers.{record-length, record-line}
 use Rattle.text.proofs.lines.write_record.Statement.{statement}
 use Rattle.text.proofs.lines.write_record.Tie as tie
 
-add-pair : tie.Need-add-pair
-add-pair c = search needs
+add-word : tie.Need-add-word
+add-word c = search needs
 
-shared-slice-read-pair : tie.Need-shared-slice-read-pair
-shared-slice-read-pair c = search needs
+shared-slice-read-word : tie.Need-shared-slice-read-word
+shared-slice-read-word c = search needs
 
-add-pair-2 : tie.Need-add-pair-2
-add-pair-2 c = search needs
+add-word-2 : tie.Need-add-word-2
+add-word-2 c = search needs
 
-shared-slice-read-pair-2 : tie.Need-shared-slice-read-pair-2
-shared-slice-read-pair-2 c = search needs
+shared-slice-read-word-2 : tie.Need-shared-slice-read-word-2
+shared-slice-read-word-2 c = search needs
 
-pair-requires : tie.Need-pair-requires
-pair-requires c κs = search needs
+word-requires : tie.Need-word-requires
+word-requires c κs = search needs
 
 cast-t13 : tie.Need-cast-t13
 cast-t13 c = search needs
@@ -67,9 +67,9 @@ slice-aggregate-write-line : tie.Need-slice-aggregate-write-line
 slice-aggregate-write-line c = search needs
 
 few : (c : tie.After-wide4)
-    → length (line (c .before .before .before .before .before .before .before .before .pair .result ∷ c .before .before .before .before .before .before .wide .result ∷ c .before .before .before .before .wide2 .result ∷ c .before .before .wide3 .result ∷ c .wide4 .result ∷ [])) ≤ 22
+    → length (line (c .before .before .before .before .before .before .before .before .word .result ∷ c .before .before .before .before .before .before .wide .result ∷ c .before .before .before .before .wide2 .result ∷ c .before .before .wide3 .result ∷ c .wide4 .result ∷ [])) ≤ 22
 few c =
-    record-length _ _ _ _ _ (omega (arith, c .before .before .before .before .before .before .before .before .pair .ok)) (c .before .before .before .before .before .before .wide .ensures .1)
+    record-length _ _ _ _ _ (omega (arith, c .before .before .before .before .before .before .before .before .word .ok)) (c .before .before .before .before .before .before .wide .ensures .1)
     (c .before .before .before .before .wide2 .ensures .1)
     (c .before .before .wide3 .ensures .1)
     (c .wide4 .ensures .1)
@@ -84,19 +84,19 @@ returns : tie.Need-returns
 returns c =
     let wrote = c .before .before in
     let w = wrote .before .before .before in
-    let pair = w .before .before .before .before .before .before .before .before in
-    let same = record-line _ _ _ _ _ _ (pair .pair .ensures) (w .before .before .before .before .before .before .wide .ensures .0) (w .before .before .before .before .wide2 .ensures .0) (w .before .before .wide3 .ensures .0) (w .wide4 .ensures .0) in
+    let word = w .before .before .before .before .before .before .before .before in
+    let same = record-line _ _ _ _ _ _ (word .word .ensures) (w .before .before .before .before .before .before .wide .ensures .0) (w .before .before .before .before .wide2 .ensures .0) (w .before .before .wide3 .ensures .0) (w .wide4 .ensures .0) in
     (wrote-as (wrote .write-line .ensures) same, omega (arith, few w, wrote .write-line .ensures .ends))
 
 pub write-record-spec : {M : Type 1} → statement M
 write-record-spec =
     tie.close
     (tie.spec
-    add-pair
-    shared-slice-read-pair
-    add-pair-2
-    shared-slice-read-pair-2
-    pair-requires
+    add-word
+    shared-slice-read-word
+    add-word-2
+    shared-slice-read-word-2
+    word-requires
     cast-t13
     add-wide
     shared-slice-read-wide

@@ -1,0 +1,2 @@
+-- A number as bytes.
+pub mod Bytes
