@@ -15,7 +15,7 @@ use Rattle.protocol.specs.Rounds.{State, workerAt, member, newRound}
 use Rattle.protocol.specs.Turns.{workersOf, allArrived, isFirst, can, closing, closed, noneLeft}
 use Rattle.protocol.proofs.Invariant.{Core}
 use Rattle.protocol.proofs.Counting.{clash, member-some}
-use Rattle.pages.specs.Copies.{Sizes, copiesIn}
+use Rattle.pages.specs.Copies.{Lent, copiesIn}
 use Rattle.worker.specs.Private.{viewed}
 use Rattle.worker.specs.declared.Worker.{Worker}
 use Rattle.queue.specs.declared.Queue.{Queue}
@@ -33,7 +33,7 @@ as-viewed {x} v {a} {cs} {f} e = subst⁻¹ (λ (y : steps.Worker). y ≡ viewed
 
 -- One worker has a new record and new copies. Of the others only the fate may be new.
 module _ (n w : ℕ) (s s′ : State) (workers : List Worker) (v′ : Worker) (copied copied′ : List Bool) (work work′ memory memory′ : List ℕ) where
-  pub bytes-moved : {a : Bool} {f : Fate} → w < 8 → Bytes n s workers copied work memory → s′ .memory ≡ memory′ → Sizes memory′ work′
+  pub bytes-moved : {a : Bool} {f : Fate} → w < 8 → Bytes n s workers copied work memory → s′ .memory ≡ memory′ → Lent memory′ work′
       → length copied′ ≡ 64
       → workerAt s′ w ≡ viewed v′ a (copiesIn copied′ work′ w) f
       → ((u : ℕ) → (u ≡ w → ⊥) → workerAt s′ u ≡ fateAs (workerAt s′ u .fate) (workerAt s u))

@@ -10,7 +10,7 @@ use Rattle.protocol.specs.Rounds.{State}
 use Rattle.protocol.specs.Turns.{workersOf, move, turn, play, noneLeft, ended}
 use Rattle.protocol.proofs.Laws.{end-stops}
 use Rattle.plan.specs.declared.decode.Record.{Record}
-use Rattle.pages.specs.Copies.{Sizes}
+use Rattle.pages.specs.Copies.{Lent}
 use Rattle.queue.specs.List.{listOf}
 use Rattle.engine.specs.Moving.{Opened, Playing, Eight, Syncing, Synced, Over}
 use Rattle.engine.specs.Turning.{Turning, Stopped, Went, movesAs}
@@ -41,7 +41,7 @@ pub record Stands (file : List ℕ) (turns start : List ℕ) (i : ℕ) (t : Tall
   pub shows : Shows (workersOf (planOf file)) (after (planOf file) start turns i) t (gathered places held registers) on mark copied memory log work
 
 module _ {file : List ℕ} {n : ℕ} {sizes firsts turns memory₀ log₀ work₀ : List ℕ} (p : Playing file n sizes firsts turns memory₀ log₀ work₀) where
-  pub begins : {t : Tally} {mark : List Bool} {log work : List ℕ} → Opened n (replicate 8 false) t mark → Sizes memory₀ work → length log ≡ 8256
+  pub begins : {t : Tally} {mark : List Bool} {log work : List ℕ} → Opened n (replicate 8 false) t mark → Lent memory₀ work → length log ≡ 8256
       → Stands file turns memory₀ 0 t (replicate 8 0) (replicate 8 0) (replicate 8 0) (replicate 8 0) mark (replicate 64 false) memory₀ log work
   unfolding gathered countFrom
   begins opened sizes room =

@@ -21,7 +21,7 @@ use Rattle.protocol.proofs.Invariant.{Inv}
 use Rattle.protocol.proofs.Laws.{start-inv}
 use Rattle.protocol.proofs.Sound.{Sound}
 use Rattle.queue.specs.List.{Below}
-use Rattle.pages.specs.Copies.{Sizes}
+use Rattle.pages.specs.Copies.{Lent}
 use Rattle.worker.specs.declared.Worker.{Worker}
 use Rattle.engine.specs.Moving.{Opened, Playing, Stepping}
 use Rattle.engine.specs.Shows.{idle, Shows}
@@ -84,7 +84,7 @@ module _ {file : List ℕ} {n : ℕ} {sizes firsts turns memory₀ log₀ work�
   pub plan-sound : Sound (planOf file)
   plan-sound = sound-file file (p .laid .ok)
 
-  pub started : {t : Tally} {mark : List Bool} {log work : List ℕ} → Opened n (replicate 8 false) t mark → Sizes memory₀ work → length log ≡ 8256
+  pub started : {t : Tally} {mark : List Bool} {log work : List ℕ} → Opened n (replicate 8 false) t mark → Lent memory₀ work → length log ≡ 8256
       → Shows (workersOf (planOf file)) (after (planOf file) memory₀ turns 0) t (replicate 8 idle) (replicate 8 0) mark (replicate 64 false) memory₀ log work
   unfolding play
   started {t} {mark} opened sizes room =

@@ -12,7 +12,7 @@ use Rattle.protocol.specs.Steps.{going, newWorker}
 use Rattle.protocol.specs.Rounds.{workerAt, member}
 use Rattle.protocol.specs.Turns.{workersOf, start, can}
 use Rattle.protocol.specs.Report.{logBytes}
-use Rattle.pages.specs.Copies.{Sizes, copiesIn}
+use Rattle.pages.specs.Copies.{Lent, copiesIn}
 use Rattle.pages.proofs.Slots.{unmarked}
 use Rattle.worker.specs.Private.{viewed}
 use Rattle.worker.specs.declared.Worker.{Worker}
@@ -44,7 +44,7 @@ pub record Starts (n : ℕ) (t : Tally) (mark : List Bool) (memory log work : Li
   pub rounds : t .rounds ≡ 0
   pub records : t .records ≡ 0
   pub marks : mark ≡ raised (upTo n) (replicate 8 false)
-  pub sizes : Sizes memory work
+  pub sizes : Lent memory work
   pub logLength : length log ≡ 8256
 
 module _ (plan : Plan) (small : workersOf plan ≤ 8) (t : Tally) (mark : List Bool) (memory log work : List ℕ)

@@ -13,7 +13,7 @@ use Rattle.protocol.specs.Rounds.{State, workerAt, member}
 use Rattle.protocol.specs.Turns.{workersOf, move}
 use Rattle.protocol.proofs.Accepted.{accepted-file, size-of}
 use Rattle.plan.specs.declared.decode.Record.{Record}
-use Rattle.pages.specs.Copies.{Sizes}
+use Rattle.pages.specs.Copies.{Lent}
 use Rattle.queue.specs.List.{listOf, Below}
 use Rattle.worker.specs.Private.{ownOf}
 use Rattle.worker.specs.declared.Worker.{Worker}
@@ -67,7 +67,7 @@ module _ {file sizes firsts : List ℕ} {w : ℕ} {v : Worker} {t : Tally} {on :
   pub moves-small : t .moves ≤ 2064
   moves-small = moves-fit (planOf file) (h .here .sound) s (h .here .inv) t workers on mark copied memory log work shows
 
-  pub bytes-right : Sizes memory work
+  pub bytes-right : Lent memory work
   bytes-right = shows .bytes .sizes
 
   pub marks-right : length copied ≡ 64

@@ -14,7 +14,7 @@ use Rattle.protocol.proofs.Sound.{Sound}
 use Rattle.protocol.proofs.Invariant.{Inv}
 use Rattle.plan.specs.declared.decode.Record.{Record}
 use Rattle.moves.specs.Moves.{InRange, fetchedAs}
-use Rattle.pages.specs.Copies.{Sizes}
+use Rattle.pages.specs.Copies.{Lent}
 use Rattle.rules.specs.Codes.{syncOf}
 use Rattle.token.specs.Token.{raised}
 use Rattle.queue.specs.List.{Holds}
@@ -112,7 +112,7 @@ pub record Playing (file : List ℕ) (n : ℕ) (sizes firsts turns memory log wo
   pub workers : n ≡ workersOf (planOf file)
   pub known : namesNobody n turns ≡ false
   pub short : length turns ≤ 65535
-  pub bytes : Sizes memory work
+  pub bytes : Lent memory work
   pub room : length log ≡ 8256
 
 -- the values at the end show the state after the turns

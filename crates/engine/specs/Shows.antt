@@ -8,7 +8,7 @@ use Rattle.protocol.specs.Format.{upTo}
 use Rattle.protocol.specs.Rounds.{State, workerAt}
 use Rattle.protocol.specs.Turns.{can}
 use Rattle.protocol.specs.Report.{logBytes}
-use Rattle.pages.specs.Copies.{Sizes, copiesIn}
+use Rattle.pages.specs.Copies.{Lent, copiesIn}
 use Rattle.worker.specs.Private.{viewed}
 use Rattle.worker.specs.declared.Worker.{Worker}
 use Rattle.queue.specs.List.{Holds}
@@ -40,7 +40,7 @@ pub record Bytes (n : ℕ) (s : State) (workers : List Worker) (copied : List Bo
       → w < n
       → workerAt s w ≡ viewed (getD workers w idle) (workerAt s w .arrived) (copiesIn copied work w) (workerAt s w .fate)
   pub eight : length workers ≡ 8
-  pub sizes : Sizes memory work
+  pub sizes : Lent memory work
   pub marks : length copied ≡ 64
 
 -- the lists, the fates by their codes, and who can move

@@ -17,8 +17,8 @@ ghost use Prim.Native.Nat.{_+_, _*_, _≤_, _<_};
 ghost use lib.Seq.{sets};
 ghost use Rattle.protocol.specs.Report.{entryBytes};
 ghost use Rattle.journal.specs.Bytes.{entryAs};
-ghost use Rattle.writer.specs.Appended.{Fits};
-ghost use Rattle.pages.specs.Copies.{Sizes};
+ghost use Rattle.writer.specs.Appended.{Appending};
+ghost use Rattle.pages.specs.Copies.{Lent};
 ghost use Rattle.engine.specs.Held.{Asking, Decided, Settled};
 ghost use Rattle.engine.specs.Moving.{Holding, Held};
 
@@ -45,7 +45,7 @@ fn decide(r: Record, h: u64, held: u64, sizes: &[u8; 8], lists: Lists, on: &[u64
 
 // The holder's copies: kept, committed to shared memory, or lost.
 fn settle_bytes(bytes: Bytes, h: usize, memory: &mut [u8], work: &[u8], copied: &mut [bool; 64])
-    requires { ⌜ Sizes (now memory) (now work) × (h < 8) ⌝ }
+    requires { ⌜ Lent (now memory) (now work) × (h < 8) ⌝ }
     ensures { λ _. ⌜ Settled bytes h (now (memory .entry)) (now (copied .entry)) (now (work .entry)) (now (memory .exit)) (now (copied .exit)) ⌝ }
 {
     match bytes {
@@ -64,7 +64,7 @@ fn record_step(
     records: usize,
     log: &mut [u8],
 ) -> usize
-    requires { ⌜ (h < 8) × (r .number ≤ 15) × (rounds < 65535) × Fits (now log) records ⌝ }
+    requires { ⌜ (h < 8) × (r .number ≤ 15) × (rounds < 65535) × Appending (now log) records ⌝ }
     ensures { λ k. ⌜ (k ≡ records + 1) × (now (log .exit) ≡ sets (now (log .entry)) (8 * records) (entryBytes (entryAs (rounds + 1) h (r .op) (r .number) outcome))) ⌝ }
 {
     let round = (rounds + 1) as u16;

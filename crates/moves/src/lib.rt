@@ -9,7 +9,7 @@ use worker::Worker;
 ghost use mathlib.Core.Path.{_≡_};
 ghost use Prim.Native.Nat.{_*_, _<_, _≤_};
 ghost use lib.ListN.{length};
-ghost use Rattle.pages.specs.Copies.{Sizes, copiesIn, WorkerHolds};
+ghost use Rattle.pages.specs.Copies.{Lent, copiesIn, WorkerHolds};
 ghost use Rattle.moves.specs.Moves.{fetchedAs, readBy, OwnReady, copiesLeft, OwnMoved};
 
 // The record of the step at a worker's place, whose steps are the records from `first` to before `end`.
@@ -31,7 +31,7 @@ pub fn fetch(file: &[u8], first: usize, end: usize, place: usize) -> Record
 
 // What a load reads; 0 for any other step.
 fn loaded(r: Record, w: usize, memory: &[u8], work: &[u8], copied: &[bool; 64]) -> u16
-    requires { ⌜ Sizes (now memory) (now work) × (w < 8) × (r .op ≡ 17 → r .number ≤ 2046) ⌝ }
+    requires { ⌜ Lent (now memory) (now work) × (w < 8) × (r .op ≡ 17 → r .number ≤ 2046) ⌝ }
     ensures { λ l. ⌜ l ≡ readBy (r .op) (now (memory .entry)) (copiesIn (now (copied .entry)) (now (work .entry)) w) (r .number) ⌝ }
 {
     if r.op != 17 {
@@ -49,7 +49,7 @@ fn keep(
     work: &mut [u8],
     copied: &mut [bool; 64],
 )
-    requires { ⌜ Sizes (now memory) (now work) × (length (now copied) ≡ 64) × (w < 8) × (r .op ≡ 18 → r .number ≤ 2046) ⌝ }
+    requires { ⌜ Lent (now memory) (now work) × (length (now copied) ≡ 64) × (w < 8) × (r .op ≡ 18 → r .number ≤ 2046) ⌝ }
     ensures { λ _. ⌜ WorkerHolds w (copiesLeft (r .op) outcome (now (memory .entry)) (copiesIn (now (copied .entry)) (now (work .entry)) w) (r .number)) (now (copied .entry)) (now (work .entry)) (now (copied .exit)) (now (work .exit)) ⌝ }
 {
     if r.op != 18 {
@@ -70,7 +70,7 @@ pub fn own_move(
     work: &mut [u8],
     copied: &mut [bool; 64],
 ) -> Worker
-    requires { ⌜ Sizes (now memory) (now work) × (length (now copied) ≡ 64) × (w < 8) × OwnReady v r ⌝ }
+    requires { ⌜ Lent (now memory) (now work) × (length (now copied) ≡ 64) × (w < 8) × OwnReady v r ⌝ }
     ensures { λ v′. ⌜ OwnMoved v r w (now (memory .entry)) (now (copied .entry)) (now (work .entry)) (now (copied .exit)) (now (work .exit)) v′ ⌝ }
 {
     let read = loaded(r, w, memory, work, copied);

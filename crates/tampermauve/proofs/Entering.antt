@@ -12,16 +12,16 @@ use Rattle.protocol.specs.Calls.{Buffers, misfit, turnsLimit, namesNobody}
 use Rattle.protocol.specs.WellFormed.{Fitting}
 use Rattle.protocol.proofs.FirstDue.{fitting}
 use Rattle.engine.specs.Moving.{Playing}
-use Rattle.tampermauve.specs.Run.{lengthsOf, Admits}
+use Rattle.tampermauve.specs.Run.{lengthsOf, decided, Admits}
 use Rattle.tampermauve.specs.declared.admit.Admitted.{Admitted}
 use Rattle.tampermauve.proofs.Admitting.{plan-workers}
-use Rattle.tampermauve.proofs.Ran.{Passed, decided, passed}
+use Rattle.tampermauve.proofs.Ran.{Cleared, passed}
 
 module _ (file turns : List ℕ) (b : Buffers) (a : Admitted) (h : Admits file turns (lengthsOf b) a) (z : a .code ≡ 0) where
-  pub none-refused : 0 ≡ decided file turns b
+  pub none-refused : 0 ≡ decided file turns (misfit b)
   none-refused = sym z ∙ h .code
 
-  tested : Passed (misfit b) (ltb turnsLimit (length turns)) (check file) (namesNobody (workersOf (planOf file)) turns)
+  tested : Cleared (misfit b) (ltb turnsLimit (length turns)) (check file) (namesNobody (workersOf (planOf file)) turns)
   tested = passed file turns b (sym none-refused)
 
   pub fits : Fitting b

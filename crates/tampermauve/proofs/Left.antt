@@ -8,8 +8,8 @@ use Rattle.protocol.specs.Format.{planOf}
 use Rattle.protocol.specs.Refusals.{accepted, check}
 use Rattle.protocol.specs.Rounds.{Entry, State}
 use Rattle.protocol.specs.Turns.{workersOf, start}
-use Rattle.protocol.specs.Report.{logBytes, reportBytes}
-use Rattle.protocol.specs.Calls.{buffersOf, lentLog, playedFrom}
+use Rattle.protocol.specs.Report.{entryLength, logBytes, reportBytes}
+use Rattle.protocol.specs.Calls.{logLength, reportLength, workLength, buffersOf, lentLog, playedFrom}
 use Rattle.protocol.proofs.Sound.{Sound}
 use Rattle.protocol.proofs.Accepted.{sound-file}
 use Rattle.protocol.proofs.Invariant.{Inv}
@@ -19,12 +19,12 @@ use Rattle.queue.specs.List.{listOf}
 use Rattle.journal.specs.Bytes.{reportOf}
 use Rattle.engine.specs.Moving.{Over}
 use Rattle.engine.specs.declared.state.Played.{Played}
-use Rattle.ending.specs.Ending.{endBy, Ends, Left}
+use Rattle.ending.specs.Ending.{endBy, Closing, Closed}
 use Rattle.journal.specs.declared.report.Counts.{Counts}
 use Rattle.tampermauve.specs.Run.{lent}
 use Rattle.tampermauve.proofs.Reported.{report-same}
 
-length-log : (es : List Entry) → length (logBytes es) ≡ 8 * length es
+length-log : (es : List Entry) → length (logBytes es) ≡ entryLength * length es
 unfolding logBytes
 length-log [] = refl
 length-log (e ∷ es) = let h = length-log es in omega arith
@@ -46,27 +46,30 @@ module _ (file turns start-memory : List ℕ) (ok : check file ≡ accepted) (p 
   fits : Bounded (planOf file) (playedFrom (planOf file) start-memory turns)
   fits = bounded (planOf file) _ sound inv
 
-  pub ends : {report : List ℕ} → length report ≡ 16 → Ends (countsOf p) n log report
-  ends size =
+  pub closing : {report : List ℕ} → length report ≡ reportLength → Closing (countsOf p) n log report
+  closing size =
       let s = o .shows in
       record {
         workers = omega (arith, right, sound .workers);
-        moves = omega (arith, s .moves, fits .movesFit);
-        rounds = omega (arith, s .rounds, fits .movesFit, fits .rounds);
-        records = omega (arith, s .logged .count, fits .recordsFit);
+        counts =
+            record {
+              moves = omega (arith, s .moves, fits .movesFit);
+              rounds = omega (arith, s .rounds, fits .movesFit, fits .rounds);
+              records = omega (arith, s .logged .count, fits .recordsFit);
+            };
         room = omega (arith, s .logged .count, s .logged .size, fits .recordsFit);
         size = size;
       }
 
-  module _ {log′ report′ work′ : List ℕ} (left : Left (listOf (p .tally .lists .list)) (countsOf p) (p .fates) n log log′ report′ work work′) where
+  module _ {log′ report′ work′ : List ℕ} (left : Closed (listOf (p .tally .lists .list)) (countsOf p) (p .fates) n log log′ report′ work work′) where
     log-same : log′ ≡ lentLog (playedFrom (planOf file) start-memory turns)
     unfolding lentLog
     log-same =
         left .logged
-        ∙ (ap (λ (bytes : List ℕ). bytes ++ replicate (length log - 8 * p .tally .records) 0) (o .shows .logged .bytes)
+        ∙ (ap (λ (bytes : List ℕ). bytes ++ replicate (length log - entryLength * p .tally .records) 0) (o .shows .logged .bytes)
         ∙ ap (λ (k : ℕ). logBytes (state .log) ++ replicate k 0) rest)
       where
-        rest : length log - 8 * p .tally .records ≡ 8256 - length (logBytes (state .log))
+        rest : length log - entryLength * p .tally .records ≡ logLength - length (logBytes (state .log))
         rest = omega (arith, o .shows .logged .size, o .shows .logged .count, length-log (state .log))
 
     report-left : report′ ≡ reportBytes (playedFrom (planOf file) start-memory turns)
@@ -80,9 +83,9 @@ module _ (file turns start-memory : List ℕ) (ok : check file ≡ accepted) (p 
       where
         said : List ℕ → ℕ → ℕ → ℕ → List ℕ
         said ws moves rounds records =
-            reportOf (record { end = endBy ws (p .fates) n; workers = n; moves = moves; rounds = rounds; records = records }) (p .fates)
+            reportOf (endBy ws (p .fates) n) n (record { moves = moves; rounds = rounds; records = records }) (p .fates)
 
-    work-same : work′ ≡ replicate 32768 0
+    work-same : work′ ≡ replicate workLength 0
     work-same = left .cleared ∙ ap (λ (k : ℕ). replicate k 0) (o .shows .bytes .sizes .workLength)
 
     pub left-same : lent memory log′ report′ work′ ≡ buffersOf (playedFrom (planOf file) start-memory turns)

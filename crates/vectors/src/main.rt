@@ -5,6 +5,7 @@ mod memory;
 use crate::memory::memory_sum;
 use libc::STDOUT_FILENO;
 use listed::list;
+use pages::MEMORY_LENGTH;
 use text::write_bytes;
 use text::write_line;
 use words::word;
@@ -36,7 +37,7 @@ fn print_line(word: &[u8], number: u64)
 }
 
 fn list_plan(file: &[u8]) {
-    let mut memory = [0u8; 2048];
+    let mut memory = [0u8; MEMORY_LENGTH];
     let code = list(file, &mut memory);
     if code == 0 {
         print_line(b"memory ", memory_sum(&memory));

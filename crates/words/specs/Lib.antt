@@ -1,2 +1,2 @@
--- A number as bytes.
+-- Numbers as bytes.
 pub mod Bytes

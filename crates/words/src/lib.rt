@@ -4,9 +4,9 @@ ghost use Prim.Native.Nat.{_+_, _/_, _%_, _≤_};
 ghost use lib.ListN.{length, replicate};
 ghost use lib.Seq.{sets};
 ghost use Rattle.protocol.specs.Format.{word as Format·word};
-ghost use Rattle.words.specs.Bytes.{bytesOf};
+ghost use Rattle.words.specs.Bytes.{wordAt, numberLength, bytesOf};
 
-// The bytes of a u64.
+// The bytes of the widest number.
 const NUMBER_LENGTH: usize = 8;
 
 // Two bytes as a number.
@@ -14,6 +14,14 @@ pub fn word(low: u8, high: u8) -> u16
     ensures { λ r. ⌜ r ≡ Format·word low high ⌝ }
 {
     low as u16 + 256 * (high as u16)
+}
+
+// The two-byte number at a place.
+pub fn word_at(bytes: &[u8], at: usize) -> u16
+    requires { ⌜ at + 2 ≤ length (now bytes) ⌝ }
+    ensures { λ r. ⌜ r ≡ wordAt (now (bytes .entry)) at ⌝ }
+{
+    word(bytes[at], bytes[at + 1])
 }
 
 pub fn low_byte(number: u16) -> u8
@@ -36,8 +44,8 @@ fn lowest(number: u64) -> u8
 
 // Writes the eight bytes of a number from a place on.
 pub fn put(bytes: &mut [u8], at: usize, number: u64)
-    requires { ⌜ at + 8 ≤ length (now bytes) ⌝ }
-    ensures { λ _. ⌜ now (bytes .exit) ≡ sets (now (bytes .entry)) at (bytesOf 8 number) ⌝ }
+    requires { ⌜ at + numberLength ≤ length (now bytes) ⌝ }
+    ensures { λ _. ⌜ now (bytes .exit) ≡ sets (now (bytes .entry)) at (bytesOf numberLength number) ⌝ }
 {
     let mut left = number;
     let mut k = 0;
