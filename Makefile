@@ -43,7 +43,7 @@ lib: $(LIB)
 header: $(OUT)/header.c.o $(OUT)/header.cc.o
 
 .PHONY: programs
-programs: $(C_PROGRAMS) $(OUT)/readme $(RT_PROGRAMS:%=target/bin/%)
+programs: $(C_PROGRAMS) $(OUT)/stack $(OUT)/readme $(RT_PROGRAMS:%=target/bin/%)
 
 .PHONY: test
 test:
@@ -92,7 +92,7 @@ $(OUT)/%.sanitized: tests/%.c $(wildcard tests/*.h) $(HEADER) $(LIB) | $(OUT)
 	$(CC) $(CFLAGS) $(SANITIZE) -Iinclude -Itests $< $(LIB) -o $@
 
 .PHONY: test-c $(C_TESTS:%=test-c-%)
-test-c: test-header $(C_TESTS:%=test-c-%) test-readme
+test-c: test-header $(C_TESTS:%=test-c-%) test-stack test-readme
 
 $(C_TESTS:%=test-c-%): test-c-%: $(OUT)/% $(OUT)/%.sanitized
 	$(OUT)/$*
@@ -102,6 +102,15 @@ $(C_TESTS:%=test-c-%): test-c-%: $(OUT)/% $(OUT)/%.sanitized
 	else \
 	    echo "valgrind is not installed: $* is not run under it"; \
 	fi
+
+# ---- how much stack the calls use, beside what the header says
+
+$(OUT)/stack: tests/stack.c $(wildcard tests/*.h) $(HEADER) $(LIB) | $(OUT)
+	$(CC) $(CFLAGS) -Iinclude -Itests $< $(LIB) -pthread -o $@
+
+.PHONY: test-stack
+test-stack: $(OUT)/stack
+	$(OUT)/stack
 
 # ---- the program in README.md, as it is printed there, and what README.md says that it prints
 

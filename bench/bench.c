@@ -19,7 +19,13 @@
 #include "tampermauve.h"
 #include "twin.h"
 
-enum { MEMORY = 2048, LOG = 8256, REPORT = 16, WORK = 32768, MOST_PASSES = 200 };
+enum {
+    MEMORY = TAMPERMAUVE_MEMORY_LENGTH,
+    LOG = TAMPERMAUVE_LOG_LENGTH,
+    REPORT = TAMPERMAUVE_REPORT_LENGTH,
+    WORK = TAMPERMAUVE_WORK_LENGTH,
+    MOST_PASSES = 200
+};
 enum { LIBRARY, TWIN, TWIN_AGAIN, ENGINES };
 
 /* So long is one measurement, in nanoseconds. */

@@ -6,23 +6,24 @@
 
 #include "twin.h"
 
-enum { RECORD = 7, WORKERS = 8, STEPS = 128 };
+enum { RECORD = TAMPERMAUVE_RECORD_LENGTH, WORKERS = TAMPERMAUVE_WORKERS_LIMIT, STEPS = TAMPERMAUVE_STEPS_LIMIT };
 
+/* The ops, by short names. */
 enum {
-    SET_TO = 16,
-    LOAD,
-    STORE,
-    ADD,
-    SUBTRACT,
-    SKIP_ZERO,
-    SKIP_NONZERO,
-    LOCK = 32,
-    UNLOCK,
-    WAIT,
-    SIGNAL,
-    BROADCAST,
-    BARRIER,
-    EXIT
+    SET_TO = TAMPERMAUVE_OP_SET,
+    LOAD = TAMPERMAUVE_OP_LOAD,
+    STORE = TAMPERMAUVE_OP_STORE,
+    ADD = TAMPERMAUVE_OP_ADD,
+    SUBTRACT = TAMPERMAUVE_OP_SUBTRACT,
+    SKIP_ZERO = TAMPERMAUVE_OP_SKIP_ZERO,
+    SKIP_NONZERO = TAMPERMAUVE_OP_SKIP_NONZERO,
+    LOCK = TAMPERMAUVE_OP_LOCK,
+    UNLOCK = TAMPERMAUVE_OP_UNLOCK,
+    WAIT = TAMPERMAUVE_OP_WAIT,
+    SIGNAL = TAMPERMAUVE_OP_SIGNAL,
+    BROADCAST = TAMPERMAUVE_OP_BROADCAST,
+    BARRIER = TAMPERMAUVE_OP_BARRIER,
+    EXIT = TAMPERMAUVE_OP_EXIT
 };
 
 /* --- Writing plans ------------------------------------------------------ */
@@ -44,8 +45,8 @@ static void *room(size_t len)
 static void put(struct set_case *c, unsigned worker, unsigned op, unsigned reg,
                 unsigned number)
 {
-    const uint8_t bytes[RECORD] = {0x4D,
-                                   0x50,
+    const uint8_t bytes[RECORD] = {TAMPERMAUVE_PLAN_MARK % 256,
+                                   TAMPERMAUVE_PLAN_MARK / 256,
                                    (uint8_t)worker,
                                    (uint8_t)op,
                                    (uint8_t)reg,
@@ -101,15 +102,15 @@ static size_t steps_of(const struct set_case *c)
 {
     size_t steps = 0;
     for (size_t at = 0; at < c->file_len; at += RECORD)
-        steps += c->file[at + 3] >= SET_TO;
+        steps += c->file[at + TAMPERMAUVE_RECORD_OP] >= SET_TO;
     return steps;
 }
 
 /* The listing's turns: 2 * (steps + workers) cycles. */
 static void cycles(struct set_case *c)
 {
-    unsigned workers = c->file[2];
-    size_t count = 2 * (steps_of(c) + workers);
+    unsigned workers = c->file[TAMPERMAUVE_RECORD_WORKER];
+    size_t count = tampermauve_ending_cycles(steps_of(c), workers);
     for (size_t i = 0; i < count; i++)
         for (unsigned worker = 0; worker < workers; worker++)
             turn(c, worker);
@@ -118,7 +119,8 @@ static void cycles(struct set_case *c)
 /* So many turns of the case's list move. */
 static unsigned moves_of(const struct set_case *c)
 {
-    static uint8_t memory[2048], log[8256], report[16], work[32768];
+    static uint8_t memory[TAMPERMAUVE_MEMORY_LENGTH], log[TAMPERMAUVE_LOG_LENGTH];
+    static uint8_t report[TAMPERMAUVE_REPORT_LENGTH], work[TAMPERMAUVE_WORK_LENGTH];
     memset(memory, 0, sizeof memory);
     if (twin_run(c->file, c->file_len, c->turns, c->turns_len, memory,
                  sizeof memory, log, sizeof log, report, sizeof report, work,
@@ -126,13 +128,13 @@ static unsigned moves_of(const struct set_case *c)
         fprintf(stderr, "a plan of the measurement is refused\n");
         exit(2);
     }
-    return report[2] | (unsigned)report[3] << 8;
+    return (unsigned)tampermauve_word(report, TAMPERMAUVE_REPORT_MOVES);
 }
 
 /* Turns to the end, each of which moves: the next worker that can. */
 static void moving_turns(struct set_case *c)
 {
-    unsigned workers = c->file[2], last = 0, passed = 0;
+    unsigned workers = c->file[TAMPERMAUVE_RECORD_WORKER], last = 0, passed = 0;
     if (wanted != ALL_SETS && wanted != (int)made - 1)
         return;
     while (passed < workers) {
@@ -157,7 +159,7 @@ static unsigned below(unsigned bound)
 
 static void random_turns(struct set_case *c, size_t len)
 {
-    unsigned workers = c->file[2];
+    unsigned workers = c->file[TAMPERMAUVE_RECORD_WORKER];
     for (size_t i = 0; i < len; i++)
         turn(c, below(workers));
 }

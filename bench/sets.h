@@ -5,7 +5,9 @@
 #include <stddef.h>
 #include <stdint.h>
 
-enum { SET_FILE = 7231, SET_TURNS = 65535, SET_CASES = 48, SETS_MOST = 40 };
+#include "tampermauve.h"
+
+enum { SET_FILE = TAMPERMAUVE_FILE_LIMIT, SET_TURNS = TAMPERMAUVE_TURNS_LIMIT, SET_CASES = 48, SETS_MOST = 40 };
 
 /* One call. */
 struct set_case {

@@ -11,10 +11,9 @@
 #include <string.h>
 
 #include "host.h"
-#include "tampermauve.h"
 
 static struct host host;
-static uint8_t starting[HOST_MEMORY];
+static uint8_t starting[TAMPERMAUVE_MEMORY_LENGTH];
 
 static int keep(const char *prefix)
 {
@@ -37,11 +36,11 @@ int main(int argc, char **argv)
         return 2;
     memcpy(starting, host.memory, sizeof starting);
     answer = tampermauve_check(host.file, host.file_len);
-    if (answer == 0) {
+    if (answer == TAMPERMAUVE_ACCEPTED) {
         host_cycles(&host, 0);
         answer = host_run(&host);
     }
-    if (answer != 0) {
+    if (answer != TAMPERMAUVE_ACCEPTED) {
         host_say_refusal(answer);
         return 1;
     }

@@ -3,9 +3,7 @@
 #include <stdio.h>
 #include <string.h>
 
-#include "tampermauve.h"
-
-enum { RECORD = 7, FIRST_STEP_OP = 16, MOST_WORKERS = 8, NAME = 4096 };
+enum { NAME = 4096 };
 
 static int trouble(const char *path, const char *what)
 {
@@ -83,22 +81,28 @@ static void shuffle(uint8_t *cycle, unsigned workers, uint64_t *state)
     }
 }
 
-/* A plan makes at most 2 * (steps + workers) moves, and a whole cycle makes
- * one at least until the plan has ended. */
-static size_t cycles_enough(const struct host *h)
+static int is_step(const uint8_t *record)
+{
+    unsigned op = record[TAMPERMAUVE_RECORD_OP];
+    return op != TAMPERMAUVE_OP_PLAN_RECORD && op != TAMPERMAUVE_OP_BARRIER_RECORD;
+}
+
+static size_t steps_of(const struct host *h)
 {
     size_t steps = 0;
-    for (size_t at = 0; at + RECORD <= h->file_len; at += RECORD)
-        steps += h->file[at + 3] >= FIRST_STEP_OP;
-    return 2 * (steps + h->file[2]);
+    for (size_t at = 0; at < h->file_len; at += TAMPERMAUVE_RECORD_LENGTH)
+        steps += is_step(h->file + at);
+    return steps;
 }
 
 void host_cycles(struct host *h, uint64_t seed)
 {
-    uint8_t cycle[MOST_WORKERS] = {0, 1, 2, 3, 4, 5, 6, 7};
-    unsigned workers = h->file[2];
-    size_t cycles = cycles_enough(h);
+    uint8_t cycle[TAMPERMAUVE_WORKERS_LIMIT];
+    unsigned workers = h->file[TAMPERMAUVE_RECORD_WORKER];
+    size_t cycles = tampermauve_ending_cycles(steps_of(h), workers);
     uint64_t state = seed;
+    for (unsigned worker = 0; worker < workers; worker++)
+        cycle[worker] = (uint8_t)worker;
     h->turns_len = 0;
     for (size_t i = 0; i < cycles; i++) {
         if (seed != 0)
@@ -118,43 +122,44 @@ uint32_t host_run(struct host *h)
 void host_say_refusal(uint32_t answer)
 {
     static const char *const words[] = {
-        "",
-        "the file is empty, cut or too long",
-        "a record without its mark",
-        "not a plan record within its limits, or a second one",
-        "a barrier record out of order, after a step or out of range",
-        "a step's worker is not in the plan, or falls",
-        "an unknown op",
-        "an operand out of range",
-        "a worker's 129th step",
-        "a barrier without a size",
-        "a skip too far",
-        "a lent buffer of another length",
-        "a turn list too long",
-        "a turn that names no worker",
+        [TAMPERMAUVE_BAD_LENGTH] = "the file is empty, cut or too long",
+        [TAMPERMAUVE_BAD_MARK] = "a record without its mark",
+        [TAMPERMAUVE_BAD_PLAN] = "not a plan record within its limits, or a second one",
+        [TAMPERMAUVE_BAD_BARRIER] = "a barrier record out of order, after a step or out of range",
+        [TAMPERMAUVE_BAD_WORKER] = "a step's worker is not in the plan, or falls",
+        [TAMPERMAUVE_BAD_OP] = "an unknown op",
+        [TAMPERMAUVE_BAD_OPERAND] = "an operand out of range",
+        [TAMPERMAUVE_TOO_MANY_STEPS] = "a worker's 129th step",
+        [TAMPERMAUVE_NO_SIZE] = "a barrier without a size",
+        [TAMPERMAUVE_SKIP_TOO_FAR] = "a skip too far",
+        [TAMPERMAUVE_BAD_BUFFER] = "a lent buffer of another length",
+        [TAMPERMAUVE_TOO_MANY_TURNS] = "a turn list too long",
+        [TAMPERMAUVE_BAD_TURN] = "a turn that names no worker",
     };
-    unsigned number = answer % 256, index = answer / 256;
-    const char *word = number < sizeof words / sizeof *words ? words[number] : "?";
-    printf("refused %u at record %u: %s\n", number, index, word);
-}
-
-static unsigned two(const uint8_t *at)
-{
-    return at[0] | (unsigned)at[1] << 8;
+    uint32_t number = tampermauve_refusal(answer);
+    printf("refused %u at record %u: %s\n", (unsigned)number, (unsigned)tampermauve_index(answer),
+           number < sizeof words / sizeof *words ? words[number] : "?");
 }
 
 void host_say_report(const struct host *h)
 {
-    static const char *const ends[] = {"going", "finished", "stuck"};
-    static const char *const fates[] = {"going", "exited", "failed",
-                                        "waiting on a condition",
-                                        "queued at a barrier"};
+    static const char *const ends[] = {
+        [TAMPERMAUVE_END_GOING] = "going",
+        [TAMPERMAUVE_END_FINISHED] = "finished",
+        [TAMPERMAUVE_END_STUCK] = "stuck",
+    };
+    static const char *const fates[] = {
+        [TAMPERMAUVE_FATE_GOING] = "going",
+        [TAMPERMAUVE_FATE_EXITED] = "exited",
+        [TAMPERMAUVE_FATE_FAILED] = "failed",
+        [TAMPERMAUVE_FATE_ON_CONDITION] = "waiting on a condition",
+        [TAMPERMAUVE_FATE_AT_BARRIER] = "queued at a barrier",
+    };
     const uint8_t *report = h->report;
-    printf("%s: %u moving turns, %u rounds completed, %u log records\n",
-           report[0] < 3 ? ends[report[0]] : "?", two(report + 2),
-           two(report + 4), two(report + 6));
-    for (unsigned worker = 0; worker < report[1] && worker < MOST_WORKERS; worker++) {
-        unsigned fate = report[8 + worker];
-        printf("worker %u: %s\n", worker, fate < 5 ? fates[fate] : "?");
-    }
+    printf("%s: %u moving turns, %u rounds completed, %u log records\n", ends[report[TAMPERMAUVE_REPORT_END]],
+           (unsigned)tampermauve_word(report, TAMPERMAUVE_REPORT_MOVES),
+           (unsigned)tampermauve_word(report, TAMPERMAUVE_REPORT_ROUNDS),
+           (unsigned)tampermauve_word(report, TAMPERMAUVE_REPORT_RECORDS));
+    for (unsigned worker = 0; worker < report[TAMPERMAUVE_REPORT_WORKERS]; worker++)
+        printf("worker %u: %s\n", worker, fates[report[TAMPERMAUVE_REPORT_FATES + worker]]);
 }

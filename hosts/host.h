@@ -5,25 +5,18 @@
 #include <stddef.h>
 #include <stdint.h>
 
-enum {
-    HOST_FILE = 7238, /* one record above the longest plan file */
-    HOST_TURNS = 65535,
-    HOST_MEMORY = 2048,
-    HOST_LOG = 8256,
-    HOST_REPORT = 16,
-    HOST_WORK = 32768
-};
+#include "tampermauve.h"
 
-/* All that a run is lent. */
+/* All that a run is lent. The room for a file is one record above the longest. */
 struct host {
-    uint8_t file[HOST_FILE];
+    uint8_t file[TAMPERMAUVE_FILE_LIMIT + TAMPERMAUVE_RECORD_LENGTH];
     size_t file_len;
-    uint8_t turns[HOST_TURNS];
+    uint8_t turns[TAMPERMAUVE_ENDING_TURNS];
     size_t turns_len;
-    uint8_t memory[HOST_MEMORY];
-    uint8_t log[HOST_LOG];
-    uint8_t report[HOST_REPORT];
-    uint8_t work[HOST_WORK];
+    uint8_t memory[TAMPERMAUVE_MEMORY_LENGTH];
+    uint8_t log[TAMPERMAUVE_LOG_LENGTH];
+    uint8_t report[TAMPERMAUVE_REPORT_LENGTH];
+    uint8_t work[TAMPERMAUVE_WORK_LENGTH];
 };
 
 /* Reads a plan file; a file above the limit is cut one record above it, so

@@ -10,7 +10,6 @@
 #include <stdlib.h>
 
 #include "host.h"
-#include "tampermauve.h"
 
 static struct host host;
 
@@ -18,7 +17,7 @@ static struct host host;
 static int compare(const char *prefix, const char *part, const uint8_t *now,
                    size_t len)
 {
-    static uint8_t kept[HOST_LOG];
+    static uint8_t kept[TAMPERMAUVE_LOG_LENGTH];
     if (host_read_part(prefix, part, kept, len))
         return 2;
     for (size_t i = 0; i < len; i++) {
@@ -57,11 +56,11 @@ int main(int argc, char **argv)
         host_read_part(argv[2], "start", host.memory, sizeof host.memory))
         return 2;
     answer = tampermauve_check(host.file, host.file_len);
-    if (answer == 0) {
+    if (answer == TAMPERMAUVE_ACCEPTED) {
         host_cycles(&host, seed);
         answer = host_run(&host);
     }
-    if (answer != 0) {
+    if (answer != TAMPERMAUVE_ACCEPTED) {
         host_say_refusal(answer);
         return 1;
     }

@@ -11,6 +11,8 @@
  *     are fine as long as no call writes a buffer that another one uses.
  *   - Every input of these types is answered. A wrong length or wrong content is refused by number, never a fault.
  *   - A refusal changes no byte of any buffer.
+ *   - A call uses less than TAMPERMAUVE_STACK_LIMIT bytes of the caller's stack (`make test-stack` measures it: some 600 for a
+ *     check and 1,700 for a run).
  */
 #ifndef TAMPERMAUVE_H
 #define TAMPERMAUVE_H
@@ -21,6 +23,13 @@
 #ifdef __cplusplus
 extern "C" {
 #endif
+
+/* ---- The version of the library that this header fits. */
+
+#define TAMPERMAUVE_VERSION_MAJOR 1
+#define TAMPERMAUVE_VERSION_MINOR 0
+#define TAMPERMAUVE_VERSION_PATCH 0
+#define TAMPERMAUVE_VERSION "1.0.0"
 
 /* ---- What a call returns: refusal + 256 x index, where index is that of a record of the file, the plan record being 0.
  *      The index is 0 for the refusals 1, 11, 12 and 13. An accepted call returns 0. */
@@ -61,7 +70,52 @@ static inline uint32_t tampermauve_index(uint32_t returned) { return returned / 
 #define TAMPERMAUVE_TURNS_LIMIT 65535u /* the longest list of turns; a turn is one byte */
 #define TAMPERMAUVE_RECORD_LENGTH 7u   /* a record of the file */
 #define TAMPERMAUVE_ENTRY_LENGTH 8u    /* a record of the log */
+
+#define TAMPERMAUVE_STACK_LIMIT 4096u  /* stack of a call: measured, and rounded up */
+
+/* ---- Limits of a plan */
+
 #define TAMPERMAUVE_WORKERS_LIMIT 8u   /* workers of a plan, and fates in a report */
+#define TAMPERMAUVE_STEPS_LIMIT 128u   /* steps of a worker */
+#define TAMPERMAUVE_REGISTER_COUNT 4u  /* registers of a worker: 0 to 3 */
+#define TAMPERMAUVE_BARRIER_COUNT 8u   /* barriers: 0 to 7 */
+#define TAMPERMAUVE_SIZE_LIMIT 8u      /* the greatest size of a barrier; the least is 1 */
+#define TAMPERMAUVE_ADDRESS_LIMIT 2046u /* the greatest address of a load or store, which take two bytes */
+#define TAMPERMAUVE_LOCK_LIMIT 15u     /* the greatest number of a lock */
+#define TAMPERMAUVE_CONDITION_LIMIT 7u /* the greatest number of a condition */
+#define TAMPERMAUVE_SKIP_LIMIT 127u    /* the most steps that a skip passes over; the least is 1 */
+
+/* ---- A record of the plan file: offsets of its parts, and the ops. */
+
+#define TAMPERMAUVE_RECORD_MARK 0u     /* two bytes, 4D 50 */
+#define TAMPERMAUVE_RECORD_WORKER 2u   /* in the plan record, n */
+#define TAMPERMAUVE_RECORD_OP 3u
+#define TAMPERMAUVE_RECORD_REGISTER 4u /* in a barrier record, the barrier */
+#define TAMPERMAUVE_RECORD_NUMBER 5u   /* two bytes; in a barrier record, the size */
+
+#define TAMPERMAUVE_PLAN_MARK 0x504Du /* 4D 50 as tampermauve_word reads it */
+
+/* the records that are no steps */
+#define TAMPERMAUVE_OP_PLAN_RECORD 0u
+#define TAMPERMAUVE_OP_BARRIER_RECORD 1u
+
+/* steps of a worker by itself: a register, and what the number is */
+#define TAMPERMAUVE_OP_SET 16u          /* a value */
+#define TAMPERMAUVE_OP_LOAD 17u         /* an address */
+#define TAMPERMAUVE_OP_STORE 18u        /* an address */
+#define TAMPERMAUVE_OP_ADD 19u          /* another register */
+#define TAMPERMAUVE_OP_SUBTRACT 20u     /* another register */
+#define TAMPERMAUVE_OP_SKIP_ZERO 21u    /* so many steps, if the register is zero */
+#define TAMPERMAUVE_OP_SKIP_NONZERO 22u /* so many steps, if the register is not zero */
+
+/* steps that synchronise: the register is 0 */
+#define TAMPERMAUVE_OP_LOCK 32u      /* a lock */
+#define TAMPERMAUVE_OP_UNLOCK 33u    /* a lock */
+#define TAMPERMAUVE_OP_WAIT 34u      /* a condition */
+#define TAMPERMAUVE_OP_SIGNAL 35u    /* a condition */
+#define TAMPERMAUVE_OP_BROADCAST 36u /* a condition */
+#define TAMPERMAUVE_OP_BARRIER 37u   /* a barrier */
+#define TAMPERMAUVE_OP_EXIT 38u      /* the number is 0 */
 
 /* ---- The report: offsets of its parts. Two-byte numbers are low byte first. */
 
@@ -94,16 +148,26 @@ static inline uint32_t tampermauve_index(uint32_t returned) { return returned / 
 #define TAMPERMAUVE_ENTRY_NUMBER 6u
 #define TAMPERMAUVE_ENTRY_OUTCOME 7u /* see the outcomes below */
 
+#define TAMPERMAUVE_LOG_MARK 0x4C4Du /* 4D 4C as tampermauve_word reads it */
+
 /* Outcomes. Lock and unlock: the count after. Signal and broadcast: the woken worker, or NONE. Barrier: QUEUED, or the size.
  * Wait and exit: NONE. A failure: FAILED, with the op as met. */
 #define TAMPERMAUVE_OUTCOME_QUEUED 0u
 #define TAMPERMAUVE_OUTCOME_FAILED 254u
 #define TAMPERMAUVE_OUTCOME_NONE 255u
 
-/* The two-byte number at an offset of a report or of a record of the log. */
+/* The two-byte number at an offset of a report, or of a record of the file or of the log. */
 static inline uint32_t tampermauve_word(const uint8_t *bytes, size_t at) {
     return (uint32_t)bytes[at] + 256u * (uint32_t)bytes[at + 1u];
 }
+
+/* ---- How many turns end a plan
+ *
+ * A cycle is one turn for each of the n workers, in any order. So many whole cycles end any plan of n workers that has so many
+ * steps in all, and no plan needs more than TAMPERMAUVE_ENDING_TURNS turns. Further turns change nothing. */
+static inline size_t tampermauve_ending_cycles(size_t steps, size_t workers) { return 2u * (steps + workers); }
+
+#define TAMPERMAUVE_ENDING_TURNS 16512u /* 2 x (8 x 128 + 8) cycles of 8 turns */
 
 /* ---- Calls */
 
@@ -119,7 +183,11 @@ uint32_t tampermauve_check(const uint8_t *file, size_t file_length);
  *   work    exactly TAMPERMAUVE_WORK_LENGTH bytes: out, all zero
  *
  * What log, report and work hold before the call does not matter. After a refusal all four are as they were.
- * `turns` may be empty; each byte names a worker. */
+ * `turns` may be empty; each byte names a worker.
+ *
+ * Each run begins with round 1, with every worker at its first step, and cannot be resumed: what it leaves in the buffers is no
+ * state to go on from. To go on, hand in the file and the starting memory again with the whole list of turns, those of
+ * the earlier run first: the log then begins with the earlier run's records. */
 uint32_t tampermauve_run(const uint8_t *file, size_t file_length, const uint8_t *turns, size_t turns_length, uint8_t *memory,
                          size_t memory_length, uint8_t *log, size_t log_length, uint8_t *report, size_t report_length,
                          uint8_t *work, size_t work_length);

@@ -107,18 +107,18 @@ archives() {
 # ---- docs/PROMISES.md, held against what is there
 
 promises() {
-    local page=docs/PROMISES.md edits=crates/pages/must-fail
+    local page=docs/PROMISES.md edits=crates/words/must-fail
     changed "a definition that is not there" $page 's/`Refusals.numberOf`/`Refusals.numbersOf`/' '`Refusals.numbersOf` names nothing' make test-promises
     changed "a theorem that is not there" $page 's/`proofs\/Formed.runnable`/`proofs\/Formed.running`/' '`proofs/Formed.running` names nothing' make test-promises
-    changed "a contract that is not there" $page 's/`plan::decode::pair`/`plan::decode::pairs`/' '`plan::decode::pairs` names nothing' make test-promises
+    changed "a contract that is not there" $page 's/`words::word`/`words::words`/' '`words::words` names nothing' make test-promises
     changed "a test that is not there" $page 's/| `lengths` |/| `length` |/' '`length` names nothing' make test-promises
-    changed "an edit that is not there" $page 's/`pages\/clear-one-byte`/`pages\/clear-two-bytes`/' '`pages/clear-two-bytes` names nothing' make test-promises
+    changed "an edit that is not there" $page 's/`words\/clear-one-byte`/`words\/clear-two-bytes`/' '`words/clear-two-bytes` names nothing' make test-promises
     changed "a definition renamed" crates/protocol/specs/Refusals.antt 's/numberOf/numbersOf/' '`numberOf` names nothing' make test-promises
     changed "a test renamed" tests/check.c 's/\blengths(/all_lengths(/' '`lengths` names nothing' make test-promises
-    without "an edit, lost" $edits/clear-one-byte.edit '`pages/clear-one-byte` names nothing' make test-promises
-    without "the edits of a crate, lost" $edits '`pages/discard-of-others` names nothing' make test-promises
+    without "an edit, lost" $edits/clear-one-byte.edit '`words/clear-one-byte` names nothing' make test-promises
+    without "the edits of a crate, lost" $edits '`words/high-byte-first` names nothing' make test-promises
     cp $edits/clear-one-byte.edit $edits/clear-no-byte.edit
-    fails "an edit that no row cites" 'no row cites the edit pages/clear-no-byte' make test-promises
+    fails "an edit that no row cites" 'no row cites the edit words/clear-no-byte' make test-promises
     rm $edits/clear-no-byte.edit
 }
 

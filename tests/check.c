@@ -5,7 +5,6 @@
 #include <string.h>
 
 #include "plan_file.h"
-#include "tampermauve.h"
 
 static unsigned checks = 0;
 static unsigned failures = 0;
@@ -52,22 +51,22 @@ static void race(struct plan_file *f) {
     unsigned w;
     plan_begin(f, 2);
     for (w = 0; w < 2; w++) {
-        plan_add(f, w, OP_LOAD, 0, w == 0 ? 2 : 0);
-        plan_add(f, w, OP_SKIP_NONZERO, 0, 2);
-        plan_add(f, w, OP_SET, 1, 1);
-        plan_add(f, w, OP_STORE, 1, w == 0 ? 0 : 2);
+        plan_add(f, w, TAMPERMAUVE_OP_LOAD, 0, w == 0 ? 2 : 0);
+        plan_add(f, w, TAMPERMAUVE_OP_SKIP_NONZERO, 0, 2);
+        plan_add(f, w, TAMPERMAUVE_OP_SET, 1, 1);
+        plan_add(f, w, TAMPERMAUVE_OP_STORE, 1, w == 0 ? 0 : 2);
     }
 }
 
 /* The largest file: the plan record, eight barrier records, 128 steps for each of eight workers. 1,033 records. */
 static void largest(struct plan_file *f) {
     unsigned k;
-    plan_begin(f, 8);
-    for (k = 0; k < 8; k++) {
+    plan_begin(f, TAMPERMAUVE_WORKERS_LIMIT);
+    for (k = 0; k < TAMPERMAUVE_BARRIER_COUNT; k++) {
         plan_size(f, k, k + 1);
     }
-    for (k = 0; k < 8; k++) {
-        plan_fill(f, k, 128);
+    for (k = 0; k < TAMPERMAUVE_WORKERS_LIMIT; k++) {
+        plan_fill(f, k, TAMPERMAUVE_STEPS_LIMIT);
     }
 }
 
@@ -87,13 +86,13 @@ static void accepted(void) {
     for (k = 0; k < 8; k++) {
         plan_size(&f, k, 8);
     }
-    plan_sync(&f, 0, OP_BARRIER, 7);
+    plan_sync(&f, 0, TAMPERMAUVE_OP_BARRIER, 7);
     accepts("eight barriers, their sizes above n", &f);
     plan_begin(&f, 2);
     plan_size(&f, 2, 1);
     plan_size(&f, 5, 8);
-    plan_sync(&f, 0, OP_BARRIER, 5);
-    plan_sync(&f, 1, OP_BARRIER, 2);
+    plan_sync(&f, 0, TAMPERMAUVE_OP_BARRIER, 5);
+    plan_sync(&f, 1, TAMPERMAUVE_OP_BARRIER, 2);
     accepts("barriers 2 and 5 alone", &f);
     plan_begin(&f, 1);
     plan_size(&f, 3, 2);
@@ -116,7 +115,7 @@ static void lengths(void) {
         }
     }
     expect_bytes("no bytes", f.bytes, 0, 1, 0);
-    plan_add(&f, 7, OP_EXIT, 0, 0);
+    plan_add(&f, 7, TAMPERMAUVE_OP_EXIT, 0, 0);
     for (k = 7232; k <= 7238; k++) {
         expect_bytes("above 7,231 bytes", f.bytes, k, 1, 0);
     }
@@ -133,14 +132,14 @@ static void marks(void) {
     unsigned k;
     for (k = 0; k < 9; k++) {
         race(&f);
-        f.bytes[7 * k] = 0x4C;
+        f.bytes[TAMPERMAUVE_RECORD_LENGTH * k] = 0x4C;
         refuses("first byte of a mark", &f, 2, k);
         race(&f);
-        f.bytes[7 * k + 1] = 0x4C;
+        f.bytes[TAMPERMAUVE_RECORD_LENGTH * k + 1] = 0x4C;
         refuses("second byte of a mark", &f, 2, k);
         race(&f);
-        f.bytes[7 * k] = 0x50;
-        f.bytes[7 * k + 1] = 0x4D;
+        f.bytes[TAMPERMAUVE_RECORD_LENGTH * k] = 0x50;
+        f.bytes[TAMPERMAUVE_RECORD_LENGTH * k + 1] = 0x4D;
         refuses("a mark's bytes exchanged", &f, 2, k);
     }
     largest(&f);
@@ -150,7 +149,7 @@ static void marks(void) {
     plan_unmark(&f, 0);
     refuses("2 before 3 in the first record", &f, 2, 0);
     plan_begin(&f, 1);
-    plan_unmark(&f, plan_add(&f, 0, OP_PLAN, 0, 0));
+    plan_unmark(&f, plan_add(&f, 0, TAMPERMAUVE_OP_PLAN_RECORD, 0, 0));
     refuses("2 before 3 later", &f, 2, 1);
     plan_begin(&f, 1);
     plan_unmark(&f, plan_size(&f, 9, 9));
@@ -160,10 +159,10 @@ static void marks(void) {
     refuses("2 before 6 and 5", &f, 2, 1);
     plan_begin(&f, 1);
     plan_sync(&f, 0, 99, 0);
-    plan_unmark(&f, plan_sync(&f, 0, OP_EXIT, 0));
+    plan_unmark(&f, plan_sync(&f, 0, TAMPERMAUVE_OP_EXIT, 0));
     refuses("an earlier record's 6 before a later one's 2", &f, 6, 1);
     plan_begin(&f, 1);
-    plan_unmark(&f, plan_sync(&f, 0, OP_EXIT, 0));
+    plan_unmark(&f, plan_sync(&f, 0, TAMPERMAUVE_OP_EXIT, 0));
     plan_sync(&f, 0, 99, 0);
     refuses("an earlier record's 2 before a later one's 6", &f, 2, 1);
 }
@@ -191,14 +190,14 @@ static void plans(void) {
         refuses("a first record of another op", &f, 3, 0);
     }
     plan_begin(&f, 1);
-    plan_add(&f, 1, OP_PLAN, 0, 0);
+    plan_add(&f, 1, TAMPERMAUVE_OP_PLAN_RECORD, 0, 0);
     refuses("a second plan record", &f, 3, 1);
     plan_begin(&f, 1);
     plan_size(&f, 0, 1);
-    plan_add(&f, 1, OP_PLAN, 0, 0);
+    plan_add(&f, 1, TAMPERMAUVE_OP_PLAN_RECORD, 0, 0);
     refuses("a plan record behind a barrier record", &f, 3, 2);
     race(&f);
-    k = plan_add(&f, 200, OP_PLAN, 200, 60000);
+    k = plan_add(&f, 200, TAMPERMAUVE_OP_PLAN_RECORD, 200, 60000);
     refuses("op 0 behind the steps", &f, 3, k);
 }
 
@@ -225,17 +224,17 @@ static void barriers(void) {
     plan_size(&f, 0, 1);
     refuses("barriers 0, 7, 0", &f, 4, 3);
     plan_begin(&f, 1);
-    plan_sync(&f, 0, OP_EXIT, 0);
+    plan_sync(&f, 0, TAMPERMAUVE_OP_EXIT, 0);
     plan_size(&f, 0, 1);
     refuses("a barrier record after a step", &f, 4, 2);
     plan_begin(&f, 1);
     plan_size(&f, 0, 1);
-    plan_sync(&f, 0, OP_EXIT, 0);
+    plan_sync(&f, 0, TAMPERMAUVE_OP_EXIT, 0);
     plan_size(&f, 1, 1);
     refuses("an ascending barrier record after a step", &f, 4, 3);
     for (k = 1; k < 256; k++) {
         plan_begin(&f, 8);
-        plan_add(&f, k, OP_SIZE, 0, 1);
+        plan_add(&f, k, TAMPERMAUVE_OP_BARRIER_RECORD, 0, 1);
         refuses("the worker byte of a barrier record", &f, 4, 1);
     }
     for (k = 0; k < 256; k++) {
@@ -312,14 +311,14 @@ static void steps(void) {
         expect_operand(k, 0, 256 * table[k][2]);
     }
     plan_begin(&f, 1);
-    plan_add(&f, 0, OP_LOAD, 3, 2046);
-    plan_add(&f, 0, OP_STORE, 3, 2046);
+    plan_add(&f, 0, TAMPERMAUVE_OP_LOAD, 3, 2046);
+    plan_add(&f, 0, TAMPERMAUVE_OP_STORE, 3, 2046);
     accepts("address 2,046", &f);
     plan_begin(&f, 1);
-    plan_add(&f, 0, OP_LOAD, 0, 2047);
+    plan_add(&f, 0, TAMPERMAUVE_OP_LOAD, 0, 2047);
     refuses("load at 2,047", &f, 7, 1);
     plan_begin(&f, 1);
-    plan_add(&f, 0, OP_STORE, 0, 2047);
+    plan_add(&f, 0, TAMPERMAUVE_OP_STORE, 0, 2047);
     refuses("store at 2,047", &f, 7, 1);
 }
 
@@ -329,20 +328,20 @@ static void order(void) {
     unsigned k;
     for (k = 0; k < 256; k++) {
         plan_begin(&f, 3);
-        plan_sync(&f, k, OP_EXIT, 0);
+        plan_sync(&f, k, TAMPERMAUVE_OP_EXIT, 0);
         refuses("a step's worker, n being 3", &f, k < 3 ? 0 : 5, k < 3 ? 0 : 1);
     }
     plan_begin(&f, 8);
-    plan_sync(&f, 8, OP_EXIT, 0);
+    plan_sync(&f, 8, TAMPERMAUVE_OP_EXIT, 0);
     refuses("worker 8 of 8", &f, 5, 1);
     plan_begin(&f, 3);
-    plan_sync(&f, 0, OP_EXIT, 0);
-    plan_sync(&f, 2, OP_EXIT, 0);
-    plan_sync(&f, 1, OP_EXIT, 0);
+    plan_sync(&f, 0, TAMPERMAUVE_OP_EXIT, 0);
+    plan_sync(&f, 2, TAMPERMAUVE_OP_EXIT, 0);
+    plan_sync(&f, 1, TAMPERMAUVE_OP_EXIT, 0);
     refuses("workers 0, 2, 1", &f, 5, 3);
     plan_begin(&f, 3);
-    plan_sync(&f, 1, OP_EXIT, 0);
-    plan_sync(&f, 0, OP_EXIT, 0);
+    plan_sync(&f, 1, TAMPERMAUVE_OP_EXIT, 0);
+    plan_sync(&f, 0, TAMPERMAUVE_OP_EXIT, 0);
     refuses("workers 1, 0", &f, 5, 2);
 
     plan_begin(&f, 1);
@@ -364,19 +363,19 @@ static void order(void) {
 
     plan_begin(&f, 2);
     plan_fill(&f, 0, 128);
-    plan_sync(&f, 1, OP_EXIT, 0);
-    plan_sync(&f, 0, OP_EXIT, 0);
+    plan_sync(&f, 1, TAMPERMAUVE_OP_EXIT, 0);
+    plan_sync(&f, 0, TAMPERMAUVE_OP_EXIT, 0);
     refuses("5 before 8", &f, 5, 130);
     plan_begin(&f, 1);
-    plan_add(&f, 1, OP_LOAD, 9, 9999);
+    plan_add(&f, 1, TAMPERMAUVE_OP_LOAD, 9, 9999);
     refuses("5 before 7", &f, 5, 1);
     plan_begin(&f, 1);
     plan_fill(&f, 0, 128);
-    plan_add(&f, 0, OP_LOAD, 9, 9999);
+    plan_add(&f, 0, TAMPERMAUVE_OP_LOAD, 9, 9999);
     refuses("8 before 7", &f, 8, 129);
     plan_begin(&f, 1);
     plan_fill(&f, 0, 128);
-    plan_sync(&f, 0, OP_BARRIER, 0);
+    plan_sync(&f, 0, TAMPERMAUVE_OP_BARRIER, 0);
     refuses("8 before 9", &f, 8, 129);
     plan_begin(&f, 1);
     plan_fill(&f, 0, 128);
@@ -386,7 +385,7 @@ static void order(void) {
     for (k = 0; k < 8; k++) {
         unsigned b;
         plan_begin(&f, 1);
-        plan_sync(&f, 0, OP_BARRIER, k);
+        plan_sync(&f, 0, TAMPERMAUVE_OP_BARRIER, k);
         refuses("a barrier without any size", &f, 9, 1);
         plan_begin(&f, 1);
         for (b = 0; b < 8; b++) {
@@ -394,17 +393,17 @@ static void order(void) {
                 plan_size(&f, b, 1);
             }
         }
-        plan_sync(&f, 0, OP_BARRIER, k);
+        plan_sync(&f, 0, TAMPERMAUVE_OP_BARRIER, k);
         refuses("a barrier without its size", &f, 9, 8);
     }
     plan_begin(&f, 1);
-    plan_sync(&f, 0, OP_BARRIER, 8);
+    plan_sync(&f, 0, TAMPERMAUVE_OP_BARRIER, 8);
     refuses("7 before 9: the number", &f, 7, 1);
     plan_begin(&f, 1);
-    plan_add(&f, 0, OP_BARRIER, 1, 0);
+    plan_add(&f, 0, TAMPERMAUVE_OP_BARRIER, 1, 0);
     refuses("7 before 9: the register", &f, 7, 1);
     plan_begin(&f, 1);
-    plan_sync(&f, 1, OP_BARRIER, 0);
+    plan_sync(&f, 1, TAMPERMAUVE_OP_BARRIER, 0);
     refuses("5 before 9", &f, 5, 1);
 }
 
@@ -412,7 +411,7 @@ static void order(void) {
 static void skips(void) {
     struct plan_file f;
     unsigned op, k;
-    for (op = OP_SKIP_ZERO; op <= OP_SKIP_NONZERO; op++) {
+    for (op = TAMPERMAUVE_OP_SKIP_ZERO; op <= TAMPERMAUVE_OP_SKIP_NONZERO; op++) {
         for (k = 1; k <= 127; k++) {
             plan_begin(&f, 2);
             plan_size(&f, 0, 1);
@@ -443,78 +442,98 @@ static void skips(void) {
         refuses("a skip of the last worker", &f, 10, 4);
     }
     plan_begin(&f, 2);
-    plan_add(&f, 0, OP_SKIP_ZERO, 0, 1);
+    plan_add(&f, 0, TAMPERMAUVE_OP_SKIP_ZERO, 0, 1);
     plan_fill(&f, 0, 1);
-    plan_add(&f, 0, OP_SKIP_ZERO, 0, 2);
+    plan_add(&f, 0, TAMPERMAUVE_OP_SKIP_ZERO, 0, 2);
     plan_fill(&f, 0, 1);
-    plan_add(&f, 1, OP_SKIP_NONZERO, 0, 9);
+    plan_add(&f, 1, TAMPERMAUVE_OP_SKIP_NONZERO, 0, 9);
     refuses("the first such skip", &f, 10, 3);
 
     /* 10 comes last, whatever record it stands in */
     plan_begin(&f, 1);
-    plan_add(&f, 0, OP_SKIP_ZERO, 0, 127);
-    plan_unmark(&f, plan_sync(&f, 0, OP_EXIT, 0));
+    plan_add(&f, 0, TAMPERMAUVE_OP_SKIP_ZERO, 0, 127);
+    plan_unmark(&f, plan_sync(&f, 0, TAMPERMAUVE_OP_EXIT, 0));
     refuses("2 before 10", &f, 2, 2);
     plan_begin(&f, 1);
-    plan_add(&f, 0, OP_SKIP_ZERO, 0, 127);
-    plan_add(&f, 0, OP_PLAN, 0, 0);
+    plan_add(&f, 0, TAMPERMAUVE_OP_SKIP_ZERO, 0, 127);
+    plan_add(&f, 0, TAMPERMAUVE_OP_PLAN_RECORD, 0, 0);
     refuses("3 before 10", &f, 3, 2);
     plan_begin(&f, 1);
-    plan_add(&f, 0, OP_SKIP_ZERO, 0, 127);
+    plan_add(&f, 0, TAMPERMAUVE_OP_SKIP_ZERO, 0, 127);
     plan_size(&f, 0, 1);
     refuses("4 before 10", &f, 4, 2);
     plan_begin(&f, 1);
-    plan_add(&f, 0, OP_SKIP_ZERO, 0, 127);
+    plan_add(&f, 0, TAMPERMAUVE_OP_SKIP_ZERO, 0, 127);
     plan_sync(&f, 0, 99, 0);
     refuses("6 before 10", &f, 6, 2);
     plan_begin(&f, 1);
-    plan_add(&f, 0, OP_SKIP_ZERO, 0, 127);
-    plan_sync(&f, 1, OP_EXIT, 0);
+    plan_add(&f, 0, TAMPERMAUVE_OP_SKIP_ZERO, 0, 127);
+    plan_sync(&f, 1, TAMPERMAUVE_OP_EXIT, 0);
     refuses("5 before 10", &f, 5, 2);
     plan_begin(&f, 1);
-    plan_add(&f, 0, OP_SKIP_ZERO, 0, 128);
+    plan_add(&f, 0, TAMPERMAUVE_OP_SKIP_ZERO, 0, 128);
     refuses("7 before 10 in one record", &f, 7, 1);
     plan_begin(&f, 1);
-    plan_add(&f, 0, OP_SKIP_ZERO, 0, 127);
-    plan_sync(&f, 0, OP_EXIT, 1);
+    plan_add(&f, 0, TAMPERMAUVE_OP_SKIP_ZERO, 0, 127);
+    plan_sync(&f, 0, TAMPERMAUVE_OP_EXIT, 1);
     refuses("7 before 10", &f, 7, 2);
     plan_begin(&f, 1);
     plan_fill(&f, 0, 127);
-    plan_add(&f, 0, OP_SKIP_ZERO, 0, 127);
+    plan_add(&f, 0, TAMPERMAUVE_OP_SKIP_ZERO, 0, 127);
     plan_fill(&f, 0, 1);
     refuses("8 before 10", &f, 8, 129);
     plan_begin(&f, 1);
-    plan_add(&f, 0, OP_SKIP_ZERO, 0, 127);
-    plan_sync(&f, 0, OP_BARRIER, 0);
+    plan_add(&f, 0, TAMPERMAUVE_OP_SKIP_ZERO, 0, 127);
+    plan_sync(&f, 0, TAMPERMAUVE_OP_BARRIER, 0);
     refuses("9 before 10", &f, 9, 2);
     largest(&f);
-    f.bytes[7 * 1032 + 3] = OP_SKIP_ZERO;
-    f.bytes[7 * 1032 + 5] = 1;
-    f.bytes[7 * 1032 + 6] = 0;
+    f.length -= TAMPERMAUVE_RECORD_LENGTH;
+    plan_add(&f, 7, TAMPERMAUVE_OP_SKIP_ZERO, 0, 1);
     refuses("10 in record 1,032", &f, 10, 1032);
 }
 
 /* The header's names have the paper's numbers. */
+struct name {
+    const char *name;
+    uint32_t value, number;
+};
+
+#define NAME(name, number) {#name, TAMPERMAUVE_##name, number}
+
+static const struct name table_of_names[] = {
+    /* refusals */
+    NAME(ACCEPTED, 0), NAME(BAD_LENGTH, 1), NAME(BAD_MARK, 2), NAME(BAD_PLAN, 3), NAME(BAD_BARRIER, 4), NAME(BAD_WORKER, 5),
+    NAME(BAD_OP, 6), NAME(BAD_OPERAND, 7), NAME(TOO_MANY_STEPS, 8), NAME(NO_SIZE, 9), NAME(SKIP_TOO_FAR, 10),
+    NAME(BAD_BUFFER, 11), NAME(TOO_MANY_TURNS, 12), NAME(BAD_TURN, 13),
+    /* lengths and limits */
+    NAME(MEMORY_LENGTH, 2048), NAME(LOG_LENGTH, 8256), NAME(REPORT_LENGTH, 16), NAME(WORK_LENGTH, 32768),
+    NAME(FILE_LIMIT, 7231), NAME(TURNS_LIMIT, 65535), NAME(RECORD_LENGTH, 7), NAME(ENTRY_LENGTH, 8), NAME(WORKERS_LIMIT, 8),
+    NAME(STEPS_LIMIT, 128), NAME(REGISTER_COUNT, 4), NAME(BARRIER_COUNT, 8), NAME(SIZE_LIMIT, 8), NAME(ADDRESS_LIMIT, 2046),
+    NAME(LOCK_LIMIT, 15), NAME(CONDITION_LIMIT, 7), NAME(SKIP_LIMIT, 127), NAME(ENDING_TURNS, 2 * (8 * 128 + 8) * 8),
+    /* the file */
+    NAME(RECORD_MARK, 0), NAME(RECORD_WORKER, 2), NAME(RECORD_OP, 3), NAME(RECORD_REGISTER, 4), NAME(RECORD_NUMBER, 5),
+    NAME(PLAN_MARK, 0x4D + 256 * 0x50), NAME(OP_PLAN_RECORD, 0), NAME(OP_BARRIER_RECORD, 1), NAME(OP_SET, 16),
+    NAME(OP_LOAD, 17), NAME(OP_STORE, 18), NAME(OP_ADD, 19), NAME(OP_SUBTRACT, 20), NAME(OP_SKIP_ZERO, 21),
+    NAME(OP_SKIP_NONZERO, 22), NAME(OP_LOCK, 32), NAME(OP_UNLOCK, 33), NAME(OP_WAIT, 34), NAME(OP_SIGNAL, 35),
+    NAME(OP_BROADCAST, 36), NAME(OP_BARRIER, 37), NAME(OP_EXIT, 38),
+    /* the report */
+    NAME(REPORT_END, 0), NAME(REPORT_WORKERS, 1), NAME(REPORT_MOVES, 2), NAME(REPORT_ROUNDS, 4), NAME(REPORT_RECORDS, 6),
+    NAME(REPORT_FATES, 8), NAME(END_GOING, 0), NAME(END_FINISHED, 1), NAME(END_STUCK, 2), NAME(FATE_GOING, 0),
+    NAME(FATE_EXITED, 1), NAME(FATE_FAILED, 2), NAME(FATE_ON_CONDITION, 3), NAME(FATE_AT_BARRIER, 4),
+    NAME(FATE_NO_WORKER, 255),
+    /* the log */
+    NAME(ENTRY_MARK, 0), NAME(ENTRY_ROUND, 2), NAME(ENTRY_WORKER, 4), NAME(ENTRY_OP, 5), NAME(ENTRY_NUMBER, 6),
+    NAME(ENTRY_OUTCOME, 7), NAME(LOG_MARK, 0x4D + 256 * 0x4C), NAME(OUTCOME_QUEUED, 0), NAME(OUTCOME_FAILED, 254),
+    NAME(OUTCOME_NONE, 255),
+};
+
 static void names(void) {
-    static const uint32_t refusals[14] = {TAMPERMAUVE_ACCEPTED,
-                                          TAMPERMAUVE_BAD_LENGTH,
-                                          TAMPERMAUVE_BAD_MARK,
-                                          TAMPERMAUVE_BAD_PLAN,
-                                          TAMPERMAUVE_BAD_BARRIER,
-                                          TAMPERMAUVE_BAD_WORKER,
-                                          TAMPERMAUVE_BAD_OP,
-                                          TAMPERMAUVE_BAD_OPERAND,
-                                          TAMPERMAUVE_TOO_MANY_STEPS,
-                                          TAMPERMAUVE_NO_SIZE,
-                                          TAMPERMAUVE_SKIP_TOO_FAR,
-                                          TAMPERMAUVE_BAD_BUFFER,
-                                          TAMPERMAUVE_TOO_MANY_TURNS,
-                                          TAMPERMAUVE_BAD_TURN};
-    uint32_t k;
-    for (k = 0; k < 14; k++) {
+    size_t k;
+    for (k = 0; k < sizeof table_of_names / sizeof *table_of_names; k++) {
+        const struct name *n = &table_of_names[k];
         checks++;
-        if (refusals[k] != k) {
-            printf("FAILED: the name of refusal %lu\n", (unsigned long)k);
+        if (n->value != n->number) {
+            printf("FAILED: TAMPERMAUVE_%s is %lu and not %lu\n", n->name, (unsigned long)n->value, (unsigned long)n->number);
             failures++;
         }
     }

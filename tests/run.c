@@ -5,12 +5,17 @@
 #include <string.h>
 
 #include "plan_file.h"
-#include "tampermauve.h"
 
 static unsigned checks = 0;
 static unsigned failures = 0;
 
-enum { MEMORY = 2048, LOG = 8256, REPORT = 16, WORK = 32768, TURNS = 65536 };
+enum {
+    MEMORY = TAMPERMAUVE_MEMORY_LENGTH,
+    LOG = TAMPERMAUVE_LOG_LENGTH,
+    REPORT = TAMPERMAUVE_REPORT_LENGTH,
+    WORK = TAMPERMAUVE_WORK_LENGTH,
+    TURNS = TAMPERMAUVE_TURNS_LIMIT + 1 /* one too many */
+};
 
 /* round, worker, op, number, outcome */
 struct entry {
@@ -77,34 +82,28 @@ static void returns(const char *name, uint32_t got, uint32_t wanted) {
     }
 }
 
-static void word(uint8_t *at, unsigned number) {
-    at[0] = (uint8_t)(number % 256u);
-    at[1] = (uint8_t)(number / 256u);
-}
-
 static void expect(const struct expected *e, const struct lent *l, unsigned workers) {
     uint8_t memory[MEMORY] = {0}, log[LOG] = {0}, report[REPORT] = {0};
     static const uint8_t work[WORK] = {0};
     unsigned k;
     memcpy(memory, e->memory, sizeof e->memory);
     for (k = 0; k < e->records; k++) {
-        uint8_t *at = log + 8u * k;
-        at[0] = 0x4D;
-        at[1] = 0x4C;
-        word(at + 2, e->log[k].round);
-        at[4] = (uint8_t)e->log[k].worker;
-        at[5] = (uint8_t)e->log[k].op;
-        at[6] = (uint8_t)e->log[k].number;
-        at[7] = (uint8_t)e->log[k].outcome;
+        uint8_t *at = log + TAMPERMAUVE_ENTRY_LENGTH * k;
+        plan_word(at + TAMPERMAUVE_ENTRY_MARK, TAMPERMAUVE_LOG_MARK);
+        plan_word(at + TAMPERMAUVE_ENTRY_ROUND, e->log[k].round);
+        at[TAMPERMAUVE_ENTRY_WORKER] = (uint8_t)e->log[k].worker;
+        at[TAMPERMAUVE_ENTRY_OP] = (uint8_t)e->log[k].op;
+        at[TAMPERMAUVE_ENTRY_NUMBER] = (uint8_t)e->log[k].number;
+        at[TAMPERMAUVE_ENTRY_OUTCOME] = (uint8_t)e->log[k].outcome;
     }
-    report[0] = (uint8_t)e->end;
-    report[1] = (uint8_t)workers;
-    word(report + 2, e->moves);
-    word(report + 4, e->rounds);
-    word(report + 6, e->records);
-    memset(report + 8, 255, 8);
+    report[TAMPERMAUVE_REPORT_END] = (uint8_t)e->end;
+    report[TAMPERMAUVE_REPORT_WORKERS] = (uint8_t)workers;
+    plan_word(report + TAMPERMAUVE_REPORT_MOVES, e->moves);
+    plan_word(report + TAMPERMAUVE_REPORT_ROUNDS, e->rounds);
+    plan_word(report + TAMPERMAUVE_REPORT_RECORDS, e->records);
+    memset(report + TAMPERMAUVE_REPORT_FATES, TAMPERMAUVE_FATE_NO_WORKER, TAMPERMAUVE_WORKERS_LIMIT);
     for (k = 0; k < workers; k++) {
-        report[8 + k] = (uint8_t)e->fates[k];
+        report[TAMPERMAUVE_REPORT_FATES + k] = (uint8_t)e->fates[k];
     }
     same(e->name, "memory", l->memory, memory, MEMORY);
     same(e->name, "log", l->log, log, LOG);
@@ -118,7 +117,7 @@ static void play(const struct expected *e, const struct plan_file *f, unsigned w
     uint8_t *file = fresh(f->length, 0);
     size_t length = (size_t)cycles * workers, i;
     uint8_t *turns = fresh(length + 1u, 0);
-    word(l.memory, start);
+    plan_word(l.memory, start);
     memcpy(file, f->bytes, f->length);
     for (i = 0; i < length; i++) {
         turns[i] = (uint8_t)(down ? workers - 1u - i % workers : i % workers);
@@ -134,31 +133,32 @@ static void play(const struct expected *e, const struct plan_file *f, unsigned w
 
 /* 2 x (steps + n) cycles of the listing program, and as many the other way round: the same bytes. */
 static void ends(const struct expected *e, const struct plan_file *f, unsigned workers, unsigned steps, unsigned start) {
-    play(e, f, workers, 2u * (steps + workers), 0, start);
-    play(e, f, workers, 2u * (steps + workers), 1, start);
+    unsigned cycles = (unsigned)tampermauve_ending_cycles(steps, workers);
+    play(e, f, workers, cycles, 0, start);
+    play(e, f, workers, cycles, 1, start);
 }
 
 static void race(struct plan_file *f) {
     unsigned w;
     plan_begin(f, 2);
     for (w = 0; w < 2; w++) {
-        plan_add(f, w, OP_LOAD, 0, w == 0 ? 2 : 0);
-        plan_add(f, w, OP_SKIP_NONZERO, 0, 2);
-        plan_add(f, w, OP_SET, 1, 1);
-        plan_add(f, w, OP_STORE, 1, w == 0 ? 0 : 2);
+        plan_add(f, w, TAMPERMAUVE_OP_LOAD, 0, w == 0 ? 2 : 0);
+        plan_add(f, w, TAMPERMAUVE_OP_SKIP_NONZERO, 0, 2);
+        plan_add(f, w, TAMPERMAUVE_OP_SET, 1, 1);
+        plan_add(f, w, TAMPERMAUVE_OP_STORE, 1, w == 0 ? 0 : 2);
     }
 }
 
 static void store(struct plan_file *f, unsigned worker, unsigned value) {
-    plan_add(f, worker, OP_SET, 0, value);
-    plan_add(f, worker, OP_STORE, 0, 0);
+    plan_add(f, worker, TAMPERMAUVE_OP_SET, 0, value);
+    plan_add(f, worker, TAMPERMAUVE_OP_STORE, 0, 0);
 }
 
 static void add_one(struct plan_file *f, unsigned worker) {
-    plan_add(f, worker, OP_LOAD, 0, 0);
-    plan_add(f, worker, OP_SET, 1, 1);
-    plan_add(f, worker, OP_ADD, 0, 1);
-    plan_add(f, worker, OP_STORE, 0, 0);
+    plan_add(f, worker, TAMPERMAUVE_OP_LOAD, 0, 0);
+    plan_add(f, worker, TAMPERMAUVE_OP_SET, 1, 1);
+    plan_add(f, worker, TAMPERMAUVE_OP_ADD, 0, 1);
+    plan_add(f, worker, TAMPERMAUVE_OP_STORE, 0, 0);
 }
 
 static void memory_cases(struct plan_file *f) {
@@ -197,29 +197,29 @@ static void token_cases(struct plan_file *f) {
     unsigned w;
     plan_begin(f, 2);
     for (w = 0; w < 2; w++) {
-        plan_sync(f, w, OP_LOCK, 0);
+        plan_sync(f, w, TAMPERMAUVE_OP_LOCK, 0);
         add_one(f, w);
-        plan_sync(f, w, OP_UNLOCK, 0);
+        plan_sync(f, w, TAMPERMAUVE_OP_UNLOCK, 0);
     }
     ends(&case4, f, 2, 12, 0);
     plan_begin(f, 1);
-    plan_sync(f, 0, OP_LOCK, 0);
-    plan_sync(f, 0, OP_WAIT, 0);
+    plan_sync(f, 0, TAMPERMAUVE_OP_LOCK, 0);
+    plan_sync(f, 0, TAMPERMAUVE_OP_WAIT, 0);
     ends(&case6, f, 1, 2, 0);
     plan_begin(f, 1);
     store(f, 0, 9);
-    plan_sync(f, 0, OP_UNLOCK, 0);
+    plan_sync(f, 0, TAMPERMAUVE_OP_UNLOCK, 0);
     ends(&case7, f, 1, 3, 0);
     plan_begin(f, 2);
     plan_size(f, 0, 2);
-    plan_sync(f, 0, OP_BARRIER, 0);
-    plan_sync(f, 1, OP_BARRIER, 0);
+    plan_sync(f, 0, TAMPERMAUVE_OP_BARRIER, 0);
+    plan_sync(f, 1, TAMPERMAUVE_OP_BARRIER, 0);
     ends(&case8, f, 2, 2, 0);
     plan_begin(f, 2);
     for (w = 0; w < 2; w++) {
-        plan_sync(f, w, OP_LOCK, 0);
-        plan_sync(f, w, w == 0 ? OP_WAIT : OP_SIGNAL, 0);
-        plan_sync(f, w, OP_UNLOCK, 0);
+        plan_sync(f, w, TAMPERMAUVE_OP_LOCK, 0);
+        plan_sync(f, w, w == 0 ? TAMPERMAUVE_OP_WAIT : TAMPERMAUVE_OP_SIGNAL, 0);
+        plan_sync(f, w, TAMPERMAUVE_OP_UNLOCK, 0);
     }
     ends(&case9, f, 2, 6, 0);
 }
@@ -260,9 +260,9 @@ static void refusals(struct plan_file *f) {
         refused("11, no byte", f, turns, 4, told, 11);
     }
     refused("12 before the file", &broken, turns, TURNS, right, 12);
-    turns[65534] = 2;
-    refused("the file before 13", &broken, turns, 65535, right, 2u + 256u * 3u);
-    refused("13, the last turn", f, turns, 65535, right, 13);
+    turns[TAMPERMAUVE_TURNS_LIMIT - 1u] = 2;
+    refused("the file before 13", &broken, turns, TAMPERMAUVE_TURNS_LIMIT, right, 2u + 256u * 3u);
+    refused("13, the last turn", f, turns, TAMPERMAUVE_TURNS_LIMIT, right, 13);
     turns[0] = 255;
     refused("13, the first turn", f, turns, 1, right, 13);
     free(turns);

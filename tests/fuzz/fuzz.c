@@ -29,9 +29,8 @@ run_call reference_run;
 int LLVMFuzzerTestOneInput(const uint8_t *data, size_t size);
 
 enum {
-    RECORD = 7,
-    MOST_FILE = 7238,
-    MOST_TURNS = 65536,
+    MOST_FILE = TAMPERMAUVE_FILE_LIMIT + TAMPERMAUVE_RECORD_LENGTH, /* one record too many */
+    MOST_TURNS = TAMPERMAUVE_TURNS_LIMIT + 1,                       /* one turn too many */
     GUARD = 32,
     GUARD_BYTE = 0xA7,
     BUFFERS = 6
@@ -41,7 +40,8 @@ enum {
 enum { FILE_AT = 4, TURNS_AT = 5 };
 static const char *const NAMES[BUFFERS] = {"memory", "log",  "report",
                                            "work",   "file", "turns"};
-static const size_t LENGTHS[4] = {2048, 8256, 16, 32768};
+static const size_t LENGTHS[4] = {TAMPERMAUVE_MEMORY_LENGTH, TAMPERMAUVE_LOG_LENGTH,
+                                  TAMPERMAUVE_REPORT_LENGTH, TAMPERMAUVE_WORK_LENGTH};
 
 /* Room for the longest of the buffers with its guards. */
 struct buffer {
@@ -122,37 +122,46 @@ static void put_record(struct buffer *file, unsigned worker, unsigned op,
                        unsigned reg, unsigned number)
 {
     uint8_t *to = start(file) + file->len;
-    const uint8_t bytes[RECORD] = {0x4D,
-                                   0x50,
+    const uint8_t bytes[TAMPERMAUVE_RECORD_LENGTH] = {TAMPERMAUVE_PLAN_MARK % 256,
+                                   TAMPERMAUVE_PLAN_MARK / 256,
                                    (uint8_t)worker,
                                    (uint8_t)op,
                                    (uint8_t)reg,
                                    (uint8_t)(number & 255),
                                    (uint8_t)(number >> 8)};
-    if (file->len + RECORD > MOST_FILE)
+    if (file->len + TAMPERMAUVE_RECORD_LENGTH > MOST_FILE)
         return;
-    memcpy(to, bytes, RECORD);
-    file->len += RECORD;
+    memcpy(to, bytes, TAMPERMAUVE_RECORD_LENGTH);
+    file->len += TAMPERMAUVE_RECORD_LENGTH;
 }
 
 /* A step from four bytes; its operands are mostly in range. */
 static void put_step(struct buffer *file, unsigned worker, const uint8_t *from)
 {
-    static const uint8_t ops[16] = {16, 17, 18, 19, 20, 21, 22, 32,
-                                    33, 34, 35, 36, 37, 38, 18, 33};
-    static const uint16_t most[7] = {65535, 2046, 2046, 3, 3, 127, 127};
+    static const uint8_t ops[16] = {
+        TAMPERMAUVE_OP_SET,       TAMPERMAUVE_OP_LOAD,         TAMPERMAUVE_OP_STORE, TAMPERMAUVE_OP_ADD,
+        TAMPERMAUVE_OP_SUBTRACT,  TAMPERMAUVE_OP_SKIP_ZERO,    TAMPERMAUVE_OP_SKIP_NONZERO, TAMPERMAUVE_OP_LOCK,
+        TAMPERMAUVE_OP_UNLOCK,    TAMPERMAUVE_OP_WAIT,         TAMPERMAUVE_OP_SIGNAL, TAMPERMAUVE_OP_BROADCAST,
+        TAMPERMAUVE_OP_BARRIER,   TAMPERMAUVE_OP_EXIT,         TAMPERMAUVE_OP_STORE, TAMPERMAUVE_OP_UNLOCK};
+    static const uint16_t most[7] = {65535,
+                                     TAMPERMAUVE_ADDRESS_LIMIT,
+                                     TAMPERMAUVE_ADDRESS_LIMIT,
+                                     TAMPERMAUVE_REGISTER_COUNT - 1,
+                                     TAMPERMAUVE_REGISTER_COUNT - 1,
+                                     TAMPERMAUVE_SKIP_LIMIT,
+                                     TAMPERMAUVE_SKIP_LIMIT};
     unsigned op = ops[from[0] & 15], number = from[2] | (unsigned)from[3] << 8;
-    unsigned reg = op < 32 ? from[1] & 3 : 0;
-    if (op == 17 || op == 18)
-        number = number % 2048;
-    else if (op == 21 || op == 22)
+    unsigned reg = op < TAMPERMAUVE_OP_LOCK ? from[1] & 3 : 0;
+    if (op == TAMPERMAUVE_OP_LOAD || op == TAMPERMAUVE_OP_STORE)
+        number = number % TAMPERMAUVE_MEMORY_LENGTH;
+    else if (op == TAMPERMAUVE_OP_SKIP_ZERO || op == TAMPERMAUVE_OP_SKIP_NONZERO)
         number = 1 + number % 8;
-    else if (op < 32)
-        number = op == 16 ? number : number & 3;
+    else if (op < TAMPERMAUVE_OP_LOCK)
+        number = op == TAMPERMAUVE_OP_SET ? number : number & 3;
     else
-        number = op == 38 ? 0 : number & 7;
+        number = op == TAMPERMAUVE_OP_EXIT ? 0 : number & 7;
     if (from[0] == 255)
-        number = op < 32 ? most[op - 16] : 15;
+        number = op < TAMPERMAUVE_OP_LOCK ? most[op - TAMPERMAUVE_OP_SET] : TAMPERMAUVE_LOCK_LIMIT;
     put_record(file, worker, op, reg, number);
 }
 
@@ -165,10 +174,10 @@ static void make_file(struct buffer *file, const uint8_t *from, size_t len)
     if (len < 9)
         return;
     workers = 1 + (from[0] & 7);
-    put_record(file, workers, 0, 0, 0);
-    for (unsigned barrier = 0; barrier < 8; barrier++)
+    put_record(file, workers, TAMPERMAUVE_OP_PLAN_RECORD, 0, 0);
+    for (unsigned barrier = 0; barrier < TAMPERMAUVE_BARRIER_COUNT; barrier++)
         if (from[1 + barrier] != 0)
-            put_record(file, 0, 1, barrier, 1 + (from[1 + barrier] & 7));
+            put_record(file, 0, TAMPERMAUVE_OP_BARRIER_RECORD, barrier, 1 + (from[1 + barrier] & 7));
     for (size_t at = 9; at + 4 <= len; at += 4) {
         if (from[at] & 128 && worker + 1 < workers)
             worker += 1;
@@ -216,7 +225,7 @@ static void make_call(const uint8_t *data, size_t size)
     else
         make_file(file, data, len);
     make_turns(turns, data + len, size - len, flags,
-               file->len > 2 ? start(file)[2] : 0);
+               file->len > TAMPERMAUVE_RECORD_WORKER ? start(file)[TAMPERMAUVE_RECORD_WORKER] : 0);
     memset(start(file) + file->len, GUARD_BYTE, GUARD);
     memset(start(turns) + turns->len, GUARD_BYTE, GUARD);
     make_lent(flags, wrong);

@@ -1,11 +1,10 @@
 -- Whether all workers have left, one worker at a time.
 use Prim.Native.Nat.{ℕ, suc, _+_, _-_, _<_, _≤_}
-use mathlib.Core.Bool.{Bool, true, false, cond, not, _&&_}
+use mathlib.Core.Bool.{true, _&&_}
 use mathlib.Core.Path.{_≡_, ap, _∙_, sym}
 use mathlib.Core.List.{List}
 use native.Mathlib.Omega.{arith}
 use native.Mathlib.Numerals.{add-one}
-use borrow.Author.Tests.{not-true, not-false}
 use lib.ListN.{getD}
 use Rattle.ending.specs.Ending.{isGone, allGone}
 
@@ -30,10 +29,3 @@ gone-start fates n = ap (λ (k : ℕ). allGone fates k 0) all
   where
     all : n - 0 ≡ n
     all = omega arith
-
-pub going : (k : ℕ) (e r : Bool) → r ≡ e → not r ≡ true → _≡_ {A = ℕ} 0 (cond e k 0)
-going k e r same not-empty = ap (λ (b : Bool). cond b k 0) (sym (not-true r not-empty) ∙ same)
-
-pub over : (e g r b : Bool) → r ≡ e → not r ≡ false → b ≡ g → _≡_ {A = ℕ} (cond b 1 2) (cond e (cond g 1 2) 0)
-over e g r b same empty all =
-    ap (λ (x : Bool). cond x 1 2) all ∙ ap (λ (x : Bool). cond x (cond g 1 2) 0) (sym (not-false r empty) ∙ same)

@@ -1,37 +1,40 @@
 -- What the end of a run goes by, and what it leaves.
-use Prim.Native.Nat.{ℕ, zero, suc, _+_, _-_, _*_, _≤_, _<_}
+use Prim.Native.Nat.{ℕ, zero, suc, _-_, _*_, _≤_}
 use mathlib.Core.Bool.{Bool, true, cond, not, _&&_, _||_}
 use mathlib.Core.Path.{_≡_}
 use mathlib.Core.List.{List, _++_}
 use lib.Dec.{ltb}
 use lib.ListN.{length, getD, take, replicate}
+use Rattle.protocol.specs.Format.{workersLimit}
 use Rattle.protocol.specs.Turns.{noneLeft}
+use Rattle.protocol.specs.Report.{underWay, finished, stuck, endNumber, entryLength}
+use Rattle.protocol.specs.Calls.{reportLength}
+use Rattle.format.specs.Fates.{codeExited, codeFailed}
 use Rattle.journal.specs.declared.report.Counts.{Counts}
-use Rattle.journal.specs.Bytes.{reportOf}
+use Rattle.journal.specs.Bytes.{Narrowing, reportOf}
 
--- the codes of exited and failed
+-- whether a code is that of exited or failed
 abbrev pub isGone : ℕ → Bool
-isGone code = not (ltb code 1 || ltb 2 code)
+isGone code = not (ltb code codeExited || ltb codeFailed code)
 
 -- so many workers from w on have left
 unfoldable pub allGone : List ℕ → ℕ → ℕ → Bool
 allGone fates zero w = true
 allGone fates (suc k) w = isGone (getD fates w 0) && allGone fates k (suc w)
 
+-- the end's number, by this round's list and the codes of fates
 abbrev pub endBy : List ℕ → List ℕ → ℕ → ℕ
-endBy list fates n = cond (noneLeft list) (cond (allGone fates n 0) 1 2) 0
+endBy list fates n = endNumber (cond (noneLeft list) (cond (allGone fates n 0) finished stuck) underWay)
 
-pub record Ends (c : Counts) (n : ℕ) (log report : List ℕ) : Type 0 where
-  pub workers : n ≤ 8
-  pub moves : c .moves < 65536
-  pub rounds : c .rounds < 65536
-  pub records : c .records < 65536
-  pub room : 8 * c .records ≤ length log
-  pub size : length report ≡ 16
+-- what the end of a run takes
+pub record Closing (c : Counts) (n : ℕ) (log report : List ℕ) : Type 0 where
+  pub workers : n ≤ workersLimit
+  pub counts : Narrowing c
+  pub room : entryLength * c .records ≤ length log
+  pub size : length report ≡ reportLength
 
-pub record Left (list : List ℕ) (c : Counts) (fates : List ℕ) (n : ℕ) (log log′ report′ work work′ : List ℕ) : Type 0 where
-  pub logged : log′ ≡ take (8 * c .records) log ++ replicate (length log - 8 * c .records) 0
-  pub reported :
-      report′
-      ≡ reportOf (record { end = endBy list fates n; workers = n; moves = c .moves; rounds = c .rounds; records = c .records }) fates
+-- what it leaves
+pub record Closed (list : List ℕ) (c : Counts) (fates : List ℕ) (n : ℕ) (log log′ report′ work work′ : List ℕ) : Type 0 where
+  pub logged : log′ ≡ take (entryLength * c .records) log ++ replicate (length log - entryLength * c .records) 0
+  pub reported : report′ ≡ reportOf (endBy list fates n) n c fates
   pub cleared : work′ ≡ replicate (length work) 0

@@ -12,14 +12,14 @@ use borrow.Author.Tests.{eq-eqb, ne-eqb}
 use Rattle.protocol.specs.Format.{workersLimit, sync, Sync, planOf}
 use Rattle.protocol.specs.Pages.{Copies}
 use Rattle.protocol.specs.Steps as steps
-use Rattle.protocol.specs.Steps.{going, workerOf, newWorker, fateAs, stepAt}
+use Rattle.protocol.specs.Steps.{going, newWorker, fateAs, stepAt}
 use Rattle.protocol.specs.Rounds.{State, workerAt, Ruling, memoryAfter, copiesAfter, fateAfter, arrivedAfter, afterRuling, staysIn, joinsNext, joinsWaiting, member, without, freed, entryOf, apply, newRound}
 use Rattle.protocol.specs.Turns.{workersOf, isFirst, closing, closed, move}
 use Rattle.protocol.specs.Report.{entryLength, logBytes}
 use Rattle.protocol.specs.Calls.{workLength, memoryLength, logLength}
 use Rattle.protocol.proofs.Counting.{freed-length, freed-at}
-use Rattle.pages.specs.Copies.{copiesIn}
-use Rattle.worker.specs.Private.{registersOf, viewed, heldAs}
+use Rattle.pages.specs.Copies.{copiesIn, slotCount}
+use Rattle.worker.specs.Private.{viewed, heldAs}
 use Rattle.worker.specs.declared.Worker.{Worker}
 use Rattle.queue.specs.List.{Holds}
 use Rattle.journal.specs.declared.report.Counts.{Counts}
@@ -54,7 +54,7 @@ pub record StepDone (s : State) (w : ℕ) (y : Sync) (R : Ruling) (t : Schedule)
   pub mine : copiesIn copied′ (k .work) w ≡ copiesAfter (R .bytes) (copiesIn (k .copied) (k .work) w)
   pub others : (u : ℕ) → (u ≡ w → ⊥) → copiesIn copied′ (k .work) u ≡ copiesIn (k .copied) (k .work) u
   pub memorySize : length memory′ ≡ memoryLength
-  pub markSize : length copied′ ≡ 64
+  pub markSize : length copied′ ≡ slotCount
   pub entry : take (entryLength * (t .counts .records + 1)) log′ ≡ logBytes (s .log ++ (entryOf s w y (R .outcome) ∷ []))
   pub logSize : length log′ ≡ logLength
   pub over : TurnedOver (ls .list) (ls .next) w (t .counts .rounds) (k .can) r can′

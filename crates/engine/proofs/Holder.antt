@@ -24,7 +24,7 @@ use Rattle.journal.proofs.Packing.{record-more}
 use Rattle.token.specs.Token.{TurnedOver}
 use Rattle.token.specs.declared.Round.{Round}
 use Rattle.rules.specs.Codes.{fateCode, syncOf}
-use Rattle.rules.specs.Rules.{wokenOf, joinedOf, rulingOf}
+use Rattle.rules.specs.Rules.{rulingOf}
 use Rattle.rules.specs.Moves.{ListsMoved}
 use Rattle.rules.specs.Fates.{FatesSettled}
 use Rattle.rules.proofs.Codes.{op-sync, operand-sync}
@@ -35,13 +35,13 @@ use Rattle.engine.specs.declared.hold.Decision.{Decision}
 use Rattle.engine.specs.Kept.{Kept, recordOf}
 use Rattle.engine.specs.Refines.{Refines}
 use Rattle.engine.specs.Holding.{Deciding, Decided, BytesSettled}
-use Rattle.engine.specs.Moving.{Able, stateOf, Syncing}
+use Rattle.engine.specs.Moving.{stateOf, Syncing}
 use Rattle.engine.proofs.Facts as facts
 use Rattle.engine.proofs.Facts.{Holder, ruleAt, applied, hold-core, list-known, next-known}
 use Rattle.engine.proofs.Here as here
 use Rattle.engine.proofs.Here.{sound, inv, small, held-same, held-small, list-some, holds-token, sizes-right, range, sync-here}
 use Rattle.engine.proofs.Parts.{scheduled}
-use Rattle.engine.proofs.HoldSimulates.{StepDone, heldKept, heldCounts, hold-simulates}
+use Rattle.engine.proofs.HoldSimulates.{StepDone, heldKept, hold-simulates}
 
 module _ {r : Record} {w : ℕ} {t : Schedule} {sizes : List ℕ} {k : Kept} (h : Syncing r w t sizes k) where
   abbrev plan : Plan

@@ -15,7 +15,7 @@ use Rattle.protocol.specs.Turns.{workersOf, allArrived, isFirst, can, closing, 
 use Rattle.protocol.proofs.Bools.{or-fails}
 use Rattle.protocol.proofs.Invariant.{Core}
 use Rattle.protocol.proofs.Counting.{clash, member-some}
-use Rattle.pages.specs.Copies.{Sizes, copiesIn}
+use Rattle.pages.specs.Copies.{Lent, copiesIn, slotCount}
 use Rattle.worker.specs.Private.{viewed}
 use Rattle.worker.specs.declared.Worker.{Worker}
 use Rattle.queue.specs.declared.Queue.{Queue}
@@ -36,7 +36,7 @@ as-viewed {x} v {a} {cs} {f} e = subst⁻¹ (λ (y : steps.Worker). y ≡ viewed
 
 -- One worker has a new record and new copies. Of the others only the fate may be new.
 pub bytes-moved : {n w : ℕ} {s s′ : State} {k k′ : Kept} {a : Bool} {f : Fate} → SameBytes n s k
-    → s′ .memory ≡ k′ .memory → Sizes (k′ .memory) (k′ .work) → length (k′ .copied) ≡ 64
+    → s′ .memory ≡ k′ .memory → Lent (k′ .memory) (k′ .work) → length (k′ .copied) ≡ slotCount
     → workerAt s′ w ≡ viewed (recordOf k′ w) a (copiesIn (k′ .copied) (k′ .work) w) f
     → ((u : ℕ) → (u ≡ w → ⊥) → workerAt s′ u ≡ fateAs (workerAt s′ u .fate) (workerAt s u))
     → ((u : ℕ) → (u ≡ w → ⊥) → recordOf k′ u ≡ recordOf k u)

@@ -15,11 +15,10 @@ use Rattle.plan.specs.declared.decode.Record.{Record}
 use Rattle.queue.specs.List.{listOf}
 use Rattle.engine.specs.declared.state.Schedule.{Schedule}
 use Rattle.engine.specs.declared.state.Reached.{Reached}
-use Rattle.engine.specs.declared.state.Played.{Played}
-use Rattle.engine.specs.Kept.{Kept, kept}
+use Rattle.engine.specs.Kept.{Kept}
 use Rattle.engine.specs.Refines.{Refines}
 use Rattle.engine.specs.Moving.{Syncing, Synced}
-use Rattle.engine.specs.Turning.{Named, Begun, Playing, Turning, Stopped, Turned, movesAs, Over}
+use Rattle.engine.specs.Turning.{Begun, Playing, Turning, Stopped, Turned, movesAs, Over}
 use Rattle.engine.proofs.Playing.{after, able-here, moved}
 use Rattle.engine.proofs.StartRefines.{startKept, start-refines}
 

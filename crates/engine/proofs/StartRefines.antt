@@ -1,9 +1,8 @@
 -- The values at first refine the start of round 1.
-use Prim.Native.Nat.{ℕ, _*_, _<_, _≤_}
-use native.Mathlib.Omega.{arith}
+use Prim.Native.Nat.{ℕ, _*_, _<_}
 use mathlib.Core.Bool.{Bool, false}
 use mathlib.Core.Path.{_≡_, refl, sym, ap, _∙_}
-use mathlib.Core.List.{List, []}
+use mathlib.Core.List.{List}
 use lib.ListN.{length, getD, take, replicate, length-replicate}
 use Rattle.protocol.specs.Format.{workersLimit, Plan, upTo}
 use Rattle.protocol.specs.Pages.{Copies}
@@ -15,7 +14,7 @@ use Rattle.protocol.specs.Report.{entryLength, logBytes}
 use Rattle.protocol.specs.Calls.{logLength}
 use Rattle.protocol.proofs.Bools.{or-fails}
 use Rattle.protocol.proofs.Lists.{getD-copies, length-countFrom}
-use Rattle.pages.specs.Copies.{Sizes, copiesIn}
+use Rattle.pages.specs.Copies.{Lent, copiesIn, slotCount}
 use Rattle.pages.proofs.Slots.{unmarked}
 use Rattle.worker.specs.Private.{viewed}
 use Rattle.worker.specs.declared.Worker.{Worker}
@@ -32,10 +31,10 @@ abbrev pub none : List ℕ
 none = replicate workersLimit 0
 
 abbrev pub startKept : (can : List Bool) (memory log work : List ℕ) → Kept
-startKept can memory log work = kept none none none none can (replicate 64 false) memory log work
+startKept can memory log work = kept none none none none can (replicate slotCount false) memory log work
 
 module _ (plan : Plan) {t : Schedule} {marks : List Bool} (memory log work : List ℕ) (begun : Begun (workersOf plan) (replicate workersLimit false) t marks)
-    (sizes : Sizes memory work) (room : length log ≡ logLength) where
+    (sizes : Lent memory work) (room : length log ≡ logLength) where
   abbrev k : Kept
   k = startKept marks memory log work
 
@@ -50,12 +49,12 @@ module _ (plan : Plan) {t : Schedule} {marks : List Bool} (memory log work : Lis
   abbrev blank : ℕ → Worker
   blank i = record { place = i; held = i; registers = i }
 
-  view : (w : ℕ) → workerAt (start plan memory) w ≡ viewed (recordOf k w) false (copiesIn (replicate 64 false) work w) going
+  view : (w : ℕ) → workerAt (start plan memory) w ≡ viewed (recordOf k w) false (copiesIn (replicate slotCount false) work w) going
   unfolding newWorker
   view w =
       at-start w
-      ∙ ap (λ (cs : Copies). viewed (blank 0) false cs going) (sym (unmarked 64 work w))
-      ∙ ap (λ (i : ℕ). viewed (blank i) false (copiesIn (replicate 64 false) work w) going) (sym (getD-copies 0 workersLimit w))
+      ∙ ap (λ (cs : Copies). viewed (blank 0) false cs going) (sym (unmarked slotCount work w))
+      ∙ ap (λ (i : ℕ). viewed (blank i) false (copiesIn (replicate slotCount false) work w) going) (sym (getD-copies 0 workersLimit w))
 
   able : (u : ℕ) → u < workersLimit → getD marks u false ≡ can (start plan memory) u
   unfolding start
@@ -77,7 +76,7 @@ module _ (plan : Plan) {t : Schedule} {marks : List Bool} (memory log work : Lis
               fates = refl;
               can = ap length (begun .marks) ∙ raised-length (upTo (workersOf plan)) (replicate workersLimit false);
             };
-        bytes = record { shared = refl; worker = λ w l. as-viewed (recordOf k w) (view w); sizes = sizes; marks = length-replicate 64 false };
+        bytes = record { shared = refl; worker = λ w l. as-viewed (recordOf k w) (view w); sizes = sizes; marks = length-replicate slotCount false };
         lists = record {
           list = begun .list;
           next = begun .next;

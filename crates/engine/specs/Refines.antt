@@ -9,7 +9,7 @@ use Rattle.protocol.specs.Rounds.{State, workerAt}
 use Rattle.protocol.specs.Turns.{can}
 use Rattle.protocol.specs.Report.{entryLength, logBytes}
 use Rattle.protocol.specs.Calls.{logLength}
-use Rattle.pages.specs.Copies.{Sizes, copiesIn}
+use Rattle.pages.specs.Copies.{Lent, copiesIn, slotCount}
 use Rattle.worker.specs.Private.{viewed}
 use Rattle.queue.specs.List.{Holds}
 use Rattle.rules.specs.Codes.{fateCode}
@@ -36,8 +36,8 @@ pub record SameBytes (n : ℕ) (s : State) (k : Kept) : Type 0 where
       (w : ℕ)
       → w < n
       → workerAt s w ≡ viewed (recordOf k w) (workerAt s w .arrived) (copiesIn (k .copied) (k .work) w) (workerAt s w .fate)
-  pub sizes : Sizes (k .memory) (k .work)
-  pub marks : length (k .copied) ≡ 64
+  pub sizes : Lent (k .memory) (k .work)
+  pub marks : length (k .copied) ≡ slotCount
 
 -- the lists, the fates by their codes, and who can move
 pub record SameLists (n : ℕ) (s : State) (t : Schedule) (k : Kept) : Type 0 where

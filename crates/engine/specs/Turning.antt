@@ -9,7 +9,7 @@ use Rattle.protocol.specs.Format.{upTo, planOf}
 use Rattle.protocol.specs.Turns.{workersOf}
 use Rattle.protocol.specs.Calls.{logLength, turnsLimit, namesNobody, playedFrom}
 use Rattle.plan.specs.declared.decode.Record.{Record}
-use Rattle.pages.specs.Copies.{Sizes}
+use Rattle.pages.specs.Copies.{Lent}
 use Rattle.moves.specs.Moves.{fetchedAs}
 use Rattle.queue.specs.List.{Holds}
 use Rattle.token.specs.Token.{raised}
@@ -73,7 +73,7 @@ pub record Begun (n : ℕ) (can : List Bool) (t : Schedule) (can′ : List Bool)
 pub record Playing (file : List ℕ) (n : ℕ) (sizes firsts turns memory log work : List ℕ) : Type 0 where
   pub named : Named file sizes firsts turns
   pub workers : n ≡ workersOf (planOf file)
-  pub bytes : Sizes memory work
+  pub bytes : Lent memory work
   pub room : length log ≡ logLength
 
 -- the values at the end show the state after the turns

@@ -5,6 +5,7 @@ use format::limits::BARRIER_COUNT;
 use format::limits::WORKERS_LIMIT;
 use journal::log::packed;
 use journal::report::Counts;
+use pages::SLOTS;
 use plan::decode::Record;
 use rules::fates::settle_fates;
 use rules::lists::Lists;
@@ -21,8 +22,8 @@ ghost use lib.Seq.{sets};
 ghost use Rattle.protocol.specs.Format.{workersLimit};
 ghost use Rattle.protocol.specs.Report.{entryLength, entryBytes};
 ghost use Rattle.journal.specs.Bytes.{entryAs};
-ghost use Rattle.writer.specs.Appended.{Fits};
-ghost use Rattle.pages.specs.Copies.{Sizes};
+ghost use Rattle.writer.specs.Appended.{Appending};
+ghost use Rattle.pages.specs.Copies.{Lent};
 ghost use Rattle.engine.specs.Kept.{kept};
 ghost use Rattle.engine.specs.Holding.{Deciding, Decided, BytesSettled};
 ghost use Rattle.engine.specs.Moving.{Syncing, Synced};
@@ -61,9 +62,9 @@ fn settle_bytes(
     h: usize,
     memory: &mut [u8],
     work: &[u8],
-    copied: &mut [bool; 64],
+    copied: &mut [bool; SLOTS],
 )
-    requires { ⌜ Sizes (now memory) (now work) × (h < workersLimit) ⌝ }
+    requires { ⌜ Lent (now memory) (now work) × (h < workersLimit) ⌝ }
     ensures { λ _. ⌜ BytesSettled bytes h (now (memory .entry)) (now (copied .entry)) (now (work .entry)) (now (memory .exit)) (now (copied .exit)) ⌝ }
 {
     match bytes {
@@ -82,7 +83,7 @@ fn record_step(
     records: usize,
     log: &mut [u8],
 ) -> usize
-    requires { ⌜ (h < workersLimit) × (r .number ≤ 15) × (rounds < 65535) × Fits (now log) records ⌝ }
+    requires { ⌜ (h < workersLimit) × (r .number ≤ 15) × (rounds < 65535) × Appending (now log) records ⌝ }
     ensures { λ k. ⌜ (k ≡ records + 1)
         × (now (log .exit)
         ≡ sets (now (log .entry)) (entryLength * records) (entryBytes (entryAs (rounds + 1) h (r .op) (r .number) outcome))) ⌝ }
@@ -103,7 +104,7 @@ pub fn hold(
     registers: &[u64; WORKERS_LIMIT],
     fates: &mut [u64; WORKERS_LIMIT],
     can: &mut [bool; WORKERS_LIMIT],
-    copied: &mut [bool; 64],
+    copied: &mut [bool; SLOTS],
     memory: &mut [u8],
     log: &mut [u8],
     work: &[u8],

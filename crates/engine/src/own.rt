@@ -4,6 +4,7 @@ use format::limits::WORKERS_LIMIT;
 use format::ops;
 use moves::fetch;
 use moves::own_move;
+use pages::SLOTS;
 use plan::decode::Record;
 use token::passes::pass_over;
 use worker::Worker;
@@ -21,7 +22,7 @@ pub fn play_own(
     places: &mut [usize; WORKERS_LIMIT],
     held: &[u64; WORKERS_LIMIT],
     registers: &mut [u64; WORKERS_LIMIT],
-    copied: &mut [bool; 64],
+    copied: &mut [bool; SLOTS],
     memory: &[u8],
     work: &mut [u8],
 ) -> Reached

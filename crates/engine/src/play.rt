@@ -6,6 +6,7 @@ use crate::sync::sync;
 use format::limits::BARRIER_COUNT;
 use format::limits::WORKERS_LIMIT;
 use journal::report::Counts;
+use pages::SLOTS;
 use queue::Queue;
 use rules::lists::Lists;
 use token::raise;
@@ -57,7 +58,7 @@ pub fn play(
     let mut registers = [0u64; WORKERS_LIMIT];
     let mut fates = [0u64; WORKERS_LIMIT];
     let mut can = [false; WORKERS_LIMIT];
-    let mut copied = [false; 64];
+    let mut copied = [false; SLOTS];
     let mut t = first_round(n as u64, &mut can);
     let mut i = 0;
     while i < turns.len() {

@@ -4,6 +4,7 @@ use crate::state::Schedule;
 use format::limits::BARRIER_COUNT;
 use format::limits::WORKERS_LIMIT;
 use journal::report::Counts;
+use pages::SLOTS;
 use plan::decode::Record;
 use token::arrive;
 ghost use Rattle.engine.specs.Kept.{kept};
@@ -20,7 +21,7 @@ pub fn sync(
     registers: &[u64; WORKERS_LIMIT],
     fates: &mut [u64; WORKERS_LIMIT],
     can: &mut [bool; WORKERS_LIMIT],
-    copied: &mut [bool; 64],
+    copied: &mut [bool; SLOTS],
     memory: &mut [u8],
     log: &mut [u8],
     work: &[u8],

@@ -1,5 +1,5 @@
-// The codes by which the engine keeps fates. Of a worker that waits, the code is one of the last two and twice the number of what it
-// waits on.
+// The codes by which the engine keeps fates: 0 going, 1 exited, 2 failed, 4 + 2c on condition c, 5 + 2b at barrier b. The report
+// shows other bytes for the last two (journal::report).
 pub const GOING: u64 = 0;
 
 pub const EXITED: u64 = 1;

@@ -10,8 +10,10 @@ use borrow.Rule.Slice.PartMut.{midOf, putMid}
 use lib.Seq.{sets, sets-eq, take-at, length-take-le}
 use Rattle.protocol.specs.Format.{countFrom}
 use Rattle.protocol.specs.Rounds.{Entry}
-use Rattle.protocol.specs.Report.{twoBytes, entryBytes, logBytes}
-use Rattle.journal.specs.Bytes.{entryAs, bytesOf, shown, fatesFrom, talliesOf}
+use Rattle.protocol.specs.Report.{entryLength, logMark, twoBytes, entryBytes, logBytes}
+use Rattle.words.specs.Bytes.{numberLength, bytesOf}
+use Rattle.journal.specs.Bytes.{entryAs, shown, fatesFrom, Narrowing, talliesOf}
+use Rattle.journal.specs.declared.report.Counts.{Counts}
 
 -- the lowest byte, and the number of the others
 lowest : (a m : ℕ) → a < 256 → (a + 256 * m) % 256 ≡ a
@@ -33,26 +35,27 @@ peel-two k n a m h e =
     ∙ ap (λ (l : List ℕ). a % 256 ∷ l) (peel k (a / 256 + 256 * m) (a / 256) m (omega arith) refl ∙ ap (λ (x : ℕ). x ∷ bytesOf k m) high)
 
 -- any number of a record's value, however the sum is written
-pub packs : (n r w o k c : ℕ) → n ≡ 19533 + 65536 * r + 4294967296 * (w + 256 * o + 65536 * (k + 256 * c))
-    → r < 65536 → w < 256 → o < 256 → k < 256 → c < 256 → bytesOf 8 n ≡ entryBytes (entryAs r w o k c)
+pub packs : (n r w o k c : ℕ) → n ≡ logMark + 65536 * r + 4294967296 * (w + 256 * o + 65536 * (k + 256 * c))
+    → r < 65536 → w < 256 → o < 256 → k < 256 → c < 256 → bytesOf entryLength n ≡ entryBytes (entryAs r w o k c)
 packs n r w o k c is hr hw ho hk hc =
     let m₅ = o + 256 * (k + 256 * c) in
     let last : c % 256 ≡ c = omega arith in
-    peel-two 6 n 19533 (r + 65536 * (w + 256 * m₅)) (omega arith) (omega arith)
-    ∙ ap (λ (l : List ℕ). 77 ∷ 76 ∷ l)
+    peel-two 6 n logMark (r + 65536 * (w + 256 * m₅)) (omega arith) (omega arith)
+    ∙ ap (λ (l : List ℕ). twoBytes logMark ++ l)
     (peel-two 4 _ r (w + 256 * m₅) hr refl
     ∙ ap (λ (l : List ℕ). twoBytes r ++ l)
     (peel 3 _ w m₅ hw refl
     ∙ ap (λ (l : List ℕ). w ∷ l) (peel 2 _ o (k + 256 * c) ho refl ∙ ap (λ (l : List ℕ). o ∷ l) (peel 1 _ k c hk refl ∙ ap (λ (x : ℕ). k ∷ x ∷ []) last))))
 
-pub packs-tallies : (n e w m r k : ℕ) → n ≡ e + 256 * w + 65536 * (m + 65536 * (r + 65536 * k))
-    → e < 256 → w < 256 → m < 65536 → r < 65536 → bytesOf 8 n ≡ talliesOf e w m r k
-packs-tallies n e w m r k is he hw hm hr =
-    let m₂ = m + 65536 * (r + 65536 * k) in
+pub packs-tallies : (n e w : ℕ) (c : Counts) → n ≡ e + 256 * w + 65536 * (c .moves + 65536 * (c .rounds + 65536 * c .records))
+    → e < 256 → w < 256 → Narrowing c → bytesOf numberLength n ≡ talliesOf e w c
+packs-tallies n e w c is he hw narrow =
+    let last = c .rounds + 65536 * c .records in
+    let m₂ = c .moves + 65536 * last in
     peel 7 n e (w + 256 * m₂) he (omega arith)
     ∙ ap (λ (l : List ℕ). e ∷ l)
     (peel 6 _ w m₂ hw refl
-    ∙ ap (λ (l : List ℕ). w ∷ l) (peel-two 4 _ m (r + 65536 * k) hm refl ∙ ap (λ (l : List ℕ). twoBytes m ++ l) (peel-two 2 _ r k hr refl)))
+    ∙ ap (λ (l : List ℕ). w ∷ l) (peel-two 4 _ (c .moves) last (narrow .moves) refl ∙ ap (λ (l : List ℕ). twoBytes (c .moves) ++ l) (peel-two 2 _ (c .rounds) (c .records) (narrow .rounds) refl)))
 
 -- one fate more, in front of those of the workers behind it
 pub fates-more : (workers : ℕ) (fates : List ℕ) (k w packed : ℕ) {b : ℕ} → b < 256 → b ≡ shown workers w (getD fates w 0)
@@ -70,17 +73,17 @@ logBytes-more [] e = append-nil (entryBytes e)
 logBytes-more (x ∷ es) e = ap (λ (l : List ℕ). entryBytes x ++ l) (logBytes-more es e) ∙ sym (append-assoc (entryBytes x) (logBytes es) (entryBytes e))
 
 -- a record more, behind those that the log has
-pub record-more : (log : List ℕ) (es : List Entry) (e : Entry) (records : ℕ) → 8 * records + 8 ≤ length log → take (8 * records) log ≡ logBytes es
-    → take (8 * (records + 1)) (sets log (8 * records) (entryBytes e)) ≡ logBytes (es ++ (e ∷ []))
+pub record-more : (log : List ℕ) (es : List Entry) (e : Entry) (records : ℕ) → entryLength * records + entryLength ≤ length log → take (entryLength * records) log ≡ logBytes es
+    → take (entryLength * (records + 1)) (sets log (entryLength * records) (entryBytes e)) ≡ logBytes (es ++ (e ∷ []))
 record-more log es e records fits old =
-    ap (λ (l : List ℕ). take (8 * (records + 1)) l) (sets-eq (entryBytes e) log (8 * records) fits)
-    ∙ (take-at (take (8 * records) log ++ entryBytes e) (drop (8 * records + 8) log) (8 * (records + 1)) size
+    ap (λ (l : List ℕ). take (entryLength * (records + 1)) l) (sets-eq (entryBytes e) log (entryLength * records) fits)
+    ∙ (take-at (take (entryLength * records) log ++ entryBytes e) (drop (entryLength * records + entryLength) log) (entryLength * (records + 1)) size
     ∙ (ap (λ (l : List ℕ). l ++ entryBytes e) old ∙ sym (logBytes-more es e)))
   where
-    size : length (take (8 * records) log ++ entryBytes e) ≡ 8 * (records + 1)
+    size : length (take (entryLength * records) log ++ entryBytes e) ≡ entryLength * (records + 1)
     size =
-        length-append (take (8 * records) log) (entryBytes e)
-        ∙ (ap (λ (k : ℕ). k + 8) (length-take-le (8 * records) log (omega arith)) ∙ omega arith)
+        length-append (take (entryLength * records) log) (entryBytes e)
+        ∙ (ap (λ (k : ℕ). k + entryLength) (length-take-le (entryLength * records) log (omega arith)) ∙ omega arith)
 
 -- zeros from a place on
 pub cleared : (l : List ℕ) (at : ℕ) → at ≤ length l

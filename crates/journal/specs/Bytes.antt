@@ -1,34 +1,43 @@
 -- What the log's records and the report are as bytes, from the code's numbers.
-use Prim.Native.Nat.{ℕ, zero, suc, _+_, _/_, _%_}
+use Prim.Native.Nat.{ℕ, _+_, _%_, _<_}
 use mathlib.Core.Bool.{cond}
-use mathlib.Core.List.{List, [], _∷_, _++_, map}
+use mathlib.Core.List.{List, _∷_, _++_, map}
 use lib.Dec.{ltb, leb}
 use lib.ListN.{getD}
-use Rattle.protocol.specs.Format.{countFrom}
+use Rattle.protocol.specs.Format.{workersLimit, countFrom}
+use Rattle.protocol.specs.Steps.{onCondition, waiting}
 use Rattle.protocol.specs.Rounds.{Entry}
-use Rattle.protocol.specs.Report.{twoBytes}
-use Rattle.journal.specs.declared.report.Tallies.{Tallies}
+use Rattle.protocol.specs.Report.{twoBytes, fateNumber, noWorker}
+use Rattle.format.specs.Fates.{codeOnCondition}
+use Rattle.journal.specs.declared.report.Counts.{Counts}
 
 abbrev pub entryAs : ℕ → ℕ → ℕ → ℕ → ℕ → Entry
 entryAs r w o k c = record { round = r; worker = w; op = o; number = k; outcome = c }
 
--- so many bytes of a number, the lowest first
-abbrev pub bytesOf : ℕ → ℕ → List ℕ
-bytesOf zero n = []
-bytesOf (suc k) n = n % 256 ∷ bytesOf k (n / 256)
+-- the byte of a worker on any condition; that of one at any barrier is the next
+abbrev pub shownOnCondition : ℕ
+shownOnCondition = fateNumber (waiting (onCondition 0))
 
--- a fate's byte, by its code: 0, 1 and 2 as they are, 3 for an even one (a condition), 4 for an odd one (a barrier)
+-- a fate's byte, by its code, which is even on a condition and odd at a barrier
+abbrev pub shownBy : ℕ → ℕ
+shownBy code = cond (ltb code codeOnCondition) code (shownOnCondition + code % 2)
+
 abbrev pub shown : ℕ → ℕ → ℕ → ℕ
-shown workers w code = cond (leb workers w) 255 (cond (ltb code 4) code (3 + code % 2))
+shown workers w code = cond (leb workers w) noWorker (shownBy code)
 
 -- the bytes of so many fates, from worker w's on
 abbrev pub fatesFrom : ℕ → List ℕ → ℕ → ℕ → List ℕ
 fatesFrom workers fates k w = map (λ v. shown workers v (getD fates v 0)) (countFrom k w)
 
--- end, number of workers, moving turns, rounds, log records
-abbrev pub talliesOf : ℕ → ℕ → ℕ → ℕ → ℕ → List ℕ
-talliesOf end workers moves rounds records = end ∷ workers ∷ (twoBytes moves ++ (twoBytes rounds ++ twoBytes records))
+-- each count fits the two bytes that the report has for it
+pub record Narrowing (c : Counts) : Type 0 where
+  pub moves : c .moves < 65536
+  pub rounds : c .rounds < 65536
+  pub records : c .records < 65536
 
-unfoldable pub reportOf : Tallies → List ℕ → List ℕ
-reportOf t fates =
-    talliesOf (t .end) (t .workers) (t .moves) (t .rounds) (t .records) ++ fatesFrom (t .workers) fates 8 0
+-- end, number of workers, moving turns, rounds, log records
+abbrev pub talliesOf : ℕ → ℕ → Counts → List ℕ
+talliesOf end workers c = end ∷ workers ∷ (twoBytes (c .moves) ++ (twoBytes (c .rounds) ++ twoBytes (c .records)))
+
+unfoldable pub reportOf : ℕ → ℕ → Counts → List ℕ → List ℕ
+reportOf end workers c fates = talliesOf end workers c ++ fatesFrom workers fates workersLimit 0

@@ -1,4 +1,4 @@
 // The log and the report as bytes.
-pub mod bytes;
+pub mod ends;
 pub mod log;
 pub mod report;

@@ -1,8 +1,31 @@
 // The report's 16 bytes.
-use crate::bytes::put;
+use format::fates;
+use format::limits::WORKERS_LIMIT;
+use words::put;
 ghost use mathlib.Core.Path.{_≡_};
 ghost use lib.ListN.{length};
-ghost use Rattle.journal.specs.Bytes.{bytesOf, shown, fatesFrom, talliesOf, reportOf};
+ghost use Rattle.protocol.specs.Format.{workersLimit};
+ghost use Rattle.protocol.specs.Calls.{reportLength};
+ghost use Rattle.words.specs.Bytes.{numberLength, bytesOf};
+ghost use Rattle.journal.specs.Bytes.{shown, fatesFrom, Narrowing, talliesOf, reportOf};
+
+// Where the report's parts stand.
+pub const REPORT_END: usize = 0;
+
+pub const REPORT_MOVES: usize = 2;
+
+pub const REPORT_RECORDS: usize = 6;
+
+pub const REPORT_FATES: usize = 8;
+
+pub const REPORT_LENGTH: usize = REPORT_FATES + WORKERS_LIMIT;
+
+// The bytes of fates that are not their codes (format::fates): one for any condition, one for any barrier, one for no worker.
+const SHOWN_ON_CONDITION: u8 = 3;
+
+const SHOWN_AT_BARRIER: u8 = 4;
+
+const NO_WORKER: u8 = 255;
 
 // What a run counts: the turns that moved, the rounds that are completed, the records of the log.
 pub struct Counts {
@@ -11,33 +34,28 @@ pub struct Counts {
     pub records: usize,
 }
 
-pub struct Tallies {
-    pub end: u8,
-    pub workers: u8,
-    pub moves: u16,
-    pub rounds: u16,
-    pub records: u16,
-}
-
-// The byte of a worker's fate: its code, 3 on any condition, 4 at any barrier; 255 for no worker.
+// The byte of a worker's fate, by its code. The codes on conditions are even, those at barriers odd.
 fn fate_byte(code: u64, w: u8, workers: u8) -> u8
     ensures { λ r. ⌜ r ≡ shown workers w code ⌝ }
 {
     if workers <= w {
-        return 255;
+        return NO_WORKER;
     }
-    if code < 4 {
+    if code < fates::ON_CONDITION {
         return (code % 256) as u8;
     }
-    3 + (code % 2) as u8
+    if code % 2 == 0 {
+        return SHOWN_ON_CONDITION;
+    }
+    SHOWN_AT_BARRIER
 }
 
 // The fates' bytes as one number, worker 0's lowest.
-fn packed_fates(fates: &[u64; 8], workers: u8) -> u64
-    ensures { λ r. ⌜ bytesOf 8 r ≡ fatesFrom workers (now (fates .entry)) 8 0 ⌝ }
+fn packed_fates(fates: &[u64; WORKERS_LIMIT], workers: u8) -> u64
+    ensures { λ r. ⌜ bytesOf numberLength r ≡ fatesFrom workers (now (fates .entry)) workersLimit 0 ⌝ }
 {
     let mut packed = 0u64;
-    let mut w = 8usize;
+    let mut w = WORKERS_LIMIT;
     while 0 < w {
         w -= 1;
         packed = fate_byte(fates[w], w as u8, workers) as u64 + 256 * packed;
@@ -46,21 +64,29 @@ fn packed_fates(fates: &[u64; 8], workers: u8) -> u64
 }
 
 // The numbers of a report as one, the first lowest.
-fn packed_tallies(end: u8, workers: u8, moves: u16, rounds: u16, records: u16) -> u64
-    ensures { λ r. ⌜ bytesOf 8 r ≡ talliesOf end workers moves rounds records ⌝ }
+fn packed_tallies(end: u8, workers: u8, c: Counts) -> u64
+    requires { ⌜ Narrowing c ⌝ }
+    ensures { λ r. ⌜ bytesOf numberLength r ≡ talliesOf end workers c ⌝ }
 {
-    let counts = rounds as u64 + 65536 * (records as u64);
-    let last = moves as u64 + 65536 * counts;
-    end as u64 + 256 * (workers as u64) + 65536 * last
+    let last = c.rounds + 65536 * (c.records as u64);
+    let counts = c.moves + 65536 * last;
+    end as u64 + 256 * (workers as u64) + 65536 * counts
 }
 
 // Writes the report: end, number of workers, moving turns, rounds, log records, and the eight fates.
-pub fn write_report(report: &mut [u8], t: Tallies, fates: &[u64; 8])
-    requires { ⌜ length (now report) ≡ 16 ⌝ }
-    ensures { λ r. ⌜ now (report .exit) ≡ reportOf t (now (fates .entry)) ⌝ }
+pub fn write_report(
+    report: &mut [u8],
+    end: u8,
+    workers: u8,
+    c: Counts,
+    fates: &[u64; WORKERS_LIMIT],
+)
+    requires { ⌜ Narrowing c ⌝ }
+    requires { ⌜ length (now report) ≡ reportLength ⌝ }
+    ensures { λ _. ⌜ now (report .exit) ≡ reportOf end workers c (now (fates .entry)) ⌝ }
 {
-    let tallies = packed_tallies(t.end, t.workers, t.moves, t.rounds, t.records);
-    let shown = packed_fates(fates, t.workers);
-    put(report, 0, tallies);
-    put(report, 8, shown);
+    let tallies = packed_tallies(end, workers, c);
+    let shown = packed_fates(fates, workers);
+    put(report, REPORT_END, tallies);
+    put(report, REPORT_FATES, shown);
 }

@@ -1,4 +1,4 @@
--- The turns of a listing are taken and end the plan, so that what is listed is the round-by-round run. Callers want `whole-cycles`, `few-taken` and `listed`.
+-- The turns of a listing are taken and end the plan, so that what is listed is the round-by-round run. Callers want `whole-cycles`, `few-taken` and `ran-to-end`.
 use Prim.Native.Nat.{ℕ, zero, suc, _+_, _≤_}
 use mathlib.Core.Bool.{Bool, false, _||_}
 use mathlib.Core.Path.{_≡_, refl, sym, ap, _∙_, subst⁻¹}
@@ -10,21 +10,23 @@ use lib.ListN.{length, getD, take, replicate, length-take, length-replicate}
 use Rattle.protocol.specs.Format.{upTo, countFrom, planOf}
 use Rattle.protocol.specs.Refusals.{Verdict, accepted, refused, codeOf, check}
 use Rattle.protocol.specs.Turns.{workersOf}
+use Rattle.protocol.specs.Report.{underWay, endNumber}
 use Rattle.protocol.specs.RoundRun.{moveLimit, roundRun}
-use Rattle.protocol.specs.Calls.{Buffers, Outcome, buffersOf, checkCode, memoryLength, logLength, reportLength, workLength, turnsLimit, misfit, namesNobody, run}
+use Rattle.protocol.specs.Calls.{Buffers, Outcome, buffersOf, checkCode, memoryLength, logLength, reportLength, workLength, turnsLimit, misfit, namesNobody, verdictBy, run}
 use Rattle.protocol.specs.Listing.{cycles, listedTurns}
 use Rattle.protocol.specs.Demands.{Whole, Cycles, done, cycle}
+use Rattle.protocol.proofs.Lists.{length-countFrom}
 use Rattle.protocol.proofs.Counting.{occurs-within}
-use Rattle.tampermauve.specs.Run.{verdictBy, Ran}
+use Rattle.tampermauve.specs.Run.{Ran}
 use Rattle.tampermauve.proofs.Admitting.{none-refused}
 use Rattle.tampermauve.proofs.Ran.{returned-code}
-use Rattle.listed.specs.Listed.{listedRun, Listed}
-use Rattle.listed.proofs.Turning.{length-up}
+use Rattle.journal.specs.Offsets.{reportEnd}
+use Rattle.listed.specs.Listed.{endingTurns, listedRun, RanToEnd}
 
 -- ---- the turns are whole cycles
 
 whole : (n : ℕ) → Whole n (upTo n)
-whole n = record { turns = length-up n 0; each = λ w h. occurs-within n 0 w (omega arith) (omega arith) }
+whole n = record { turns = length-countFrom n 0; each = λ w h. occurs-within n 0 w (omega arith) (omega arith) }
 
 pub whole-cycles : (n k : ℕ) → Cycles n k (cycles n k)
 unfolding cycles
@@ -48,13 +50,13 @@ cycles-name n (suc k) = up-names n n 0 (cycles n k) (omega arith) ∙ cycles-nam
 
 by-file : (m t s : Bool) (v : Verdict) → m ≡ false → t ≡ false → (v ≡ accepted → s ≡ false) → verdictBy m t v s ≡ v
 by-file m t s v fits few named =
-    ap (λ (b : Bool). verdictBy b t v s) fits ∙ (ap (λ (b : Bool). verdictBy false b v s) few ∙ go v named)
+    rw (fits, few) (go v named)
   where
     go : (u : Verdict) → (u ≡ accepted → s ≡ false) → verdictBy false false u s ≡ u
     go accepted known = ap (λ (b : Bool). verdictBy false false accepted b) (known refl)
     go (refused f i) known = refl
 
-pub few-taken : (k : ℕ) (turns : List ℕ) → k ≤ 16512 → length (take k turns) ≤ turnsLimit
+pub few-taken : (k : ℕ) (turns : List ℕ) → k ≤ endingTurns → length (take k turns) ≤ turnsLimit
 few-taken k turns h = let e = length-take k turns in omega arith
 
 -- what a listing lends and feeds
@@ -69,7 +71,9 @@ pub record Feeds (file turns : List ℕ) (before : Buffers) : Type 0 where
 returned-by-file : (file turns : List ℕ) (before : Buffers) → Feeds file turns before → run file turns before .returned ≡ checkCode file
 returned-by-file file turns before feeds =
     returned-code file turns before
-    ∙ ap codeOf (by-file (misfit before) (ltb turnsLimit (length turns)) (namesNobody (workersOf (planOf file)) turns) (check file) fits (le-ltb turnsLimit (length turns) (feeds .few)) named)
+    ∙ ap codeOf
+    (by-file (misfit before) (ltb turnsLimit (length turns)) (namesNobody (workersOf (planOf file)) turns) (check file) fits
+    (le-ltb turnsLimit (length turns) (feeds .few)) named)
   where
     size : length (before .memory) ≡ memoryLength
     size = ap length (feeds .zeros) ∙ length-replicate {A = ℕ} memoryLength 0
@@ -82,9 +86,9 @@ returned-by-file file turns before feeds =
         ap (λ (ts : List ℕ). namesNobody (workersOf (planOf file)) ts) (feeds .full ok)
         ∙ cycles-name (workersOf (planOf file)) (moveLimit (planOf file))
 
-pub listed : (file turns : List ℕ) (before after : Buffers) (r : ℕ) → Ran file turns before r after → Feeds file turns before
-    → Listed file r (after .memory) (after .log) (after .report)
-listed file turns before after r ran feeds =
+pub ran-to-end : (file turns : List ℕ) (before after : Buffers) (r : ℕ) → Ran file turns before r after → Feeds file turns before
+    → RanToEnd file r (after .memory) (after .log) (after .report)
+ran-to-end file turns before after r ran feeds =
     record {
       code = code;
       sameMemory = λ z. ap (λ (b : Buffers). b .memory) (same z);
@@ -97,7 +101,7 @@ listed file turns before after r ran feeds =
     code =
         ap (λ (o : Outcome). o .returned) (ran .same) ∙ returned-by-file file turns before feeds
 
-    ends : r ≡ 0 → getD (after .report) 0 0 ≡ 0 → ⊥
+    ends : r ≡ 0 → getD (after .report) reportEnd 0 ≡ endNumber underWay → ⊥
     ends z =
         ran .demand3 z .cyclesEnd
         (subst⁻¹ (λ (ts : List ℕ). Cycles (workersOf (planOf file)) (moveLimit (planOf file)) ts) (feeds .full (none-refused (check file) (sym code ∙ z)))

@@ -6,7 +6,7 @@ use mathlib.Core.Path.{_≡_, refl, sym, ap, _∙_, subst⁻¹}
 use mathlib.Core.List.{List, _++_}
 use lib.ListN.{length, getD, drop, replicate}
 use lib.Seq.{sets-eq}
-use Rattle.protocol.specs.Format.{word, Plan, planOf}
+use Rattle.protocol.specs.Format.{Plan, planOf}
 use Rattle.protocol.specs.Refusals.{numberOf, Verdict, accepted, refused, codeOf, check}
 use Rattle.protocol.specs.Rounds.{State}
 use Rattle.protocol.specs.Turns.{workersOf}
@@ -21,9 +21,11 @@ use Rattle.protocol.proofs.Bounds.{Bounded, played-bounded}
 use Rattle.protocol.proofs.Bytes.{word-bytes}
 use Rattle.protocol.proofs.Demand3.{demand3-file}
 use Rattle.protocol.proofs.Logged.{played-rounds}
-use Rattle.listed.specs.Listed.{listedRun, Listed}
+use Rattle.words.specs.Bytes.{wordAt}
+use Rattle.journal.specs.Offsets.{reportEnd, reportRecords, entriesLimit}
+use Rattle.listed.specs.Listed.{listedRun, RanToEnd}
 use Rattle.tampermauve.proofs.Admitting.{none-refused}
-use Rattle.text.specs.Text.{Wrote, entriesFrom, endBy, lastLine}
+use Rattle.text.specs.Text.{Wrote, entriesFrom, endNumbered, lastLine}
 use Rattle.listed.specs.Text.{WroteListing}
 use Rattle.listed.proofs.Ended.{whole-cycles}
 use Rattle.text.proofs.Entries.{entries-back}
@@ -41,15 +43,15 @@ refused-text file r e h = go (check file) e
         ap (λ (k : ℕ). refusalLine k (r / 256)) number ∙ ap (refusalLine (numberOf f)) index
 
 -- the end, by its number
-end-back : (e : End) → (endNumber e ≡ 0 → ⊥) → endBy (endNumber e) ≡ e
+end-back : (e : End) → (endNumber e ≡ endNumber underWay → ⊥) → endNumbered (endNumber e) ≡ e
 end-back underWay h = absurd (h refl)
 end-back finished h = refl
 end-back stuck h = refl
 
 -- What the log and the report of an accepted file's run tell.
 pub record Told (file log report : List ℕ) : Type 0 where
-  pub records : word (getD report 6 0) (getD report 7 0) ≤ 1032
-  pub text : (k : ℕ) → k ≡ word (getD report 6 0) (getD report 7 0) → logLines (entriesFrom log k 0) ++ lastLine report ≡ listing file
+  pub records : wordAt report reportRecords ≤ entriesLimit
+  pub text : (k : ℕ) → k ≡ wordAt report reportRecords → logLines (entriesFrom log k 0) ++ lastLine report ≡ listing file
 
 module _ (file : List ℕ) (ok : check file ≡ accepted) where
   abbrev plan : Plan
@@ -68,12 +70,13 @@ module _ (file : List ℕ) (ok : check file ≡ accepted) where
   b : Bounded plan s
   b = played-bounded plan (sound-file file ok) (replicate memoryLength 0) (listedTurns plan)
 
-  lines-back : (endNumber (endOf s) ≡ 0 → ⊥) → Told file (lentLog s) (reportBytes s)
+  lines-back : (endNumber (endOf s) ≡ endNumber underWay → ⊥) → Told file (lentLog s) (reportBytes s)
   unfolding reportBytes lentLog listing
   lines-back h =
       let records = word-bytes (length (s .log)) (omega (arith, b .recordsFit)) in
       let moves = word-bytes (s .moves) (omega (arith, b .movesFit)) in
-      let log = entries-back (s .log) (replicate (logLength - length (logBytes (s .log))) 0) (played-rounds plan (sound-file file ok) (replicate memoryLength 0) (listedTurns plan)) in
+      let log = entries-back (s .log) (replicate (logLength - length (logBytes (s .log))) 0)
+      (played-rounds plan (sound-file file ok) (replicate memoryLength 0) (listedTurns plan)) in
       record {
         records = omega (arith, records, b .recordsFit);
         text = λ k e.
@@ -81,19 +84,19 @@ module _ (file : List ℕ) (ok : check file ≡ accepted) where
             (ap (λ (v : Verdict). linesOf v s) (sym ok));
       }
 
-pub accepted-text : (file : List ℕ) {r : ℕ} {memory log report : List ℕ} → Listed file r memory log report → r ≡ 0 → Told file log report
+pub accepted-text : (file : List ℕ) {r : ℕ} {memory log report : List ℕ} → RanToEnd file r memory log report → r ≡ 0 → Told file log report
 unfolding reportBytes
 accepted-text file {report = report} listed z =
     let ok = none-refused (check file) (sym (listed .code) ∙ z) in
     let s = listedState (planOf file) in
     let logIs = listed .sameLog z ∙ ap lentLog (run-played file ok) in
     let reportIs = listed .sameReport z ∙ ap reportBytes (run-played file ok) in
-    let first : getD report 0 0 ≡ endNumber (endOf s) = ap (λ (l : List ℕ). getD l 0 0) reportIs in
+    let first : getD report reportEnd 0 ≡ endNumber (endOf s) = ap (λ (l : List ℕ). getD l 0 0) reportIs in
     subst⁻¹ (λ (l : List ℕ). Told file l report) logIs
     (subst⁻¹ (λ (l : List ℕ). Told file (lentLog s) l) reportIs (lines-back file ok (λ q. listed .ended z (first ∙ q))))
 
 -- the listing stands in front, and nothing else has changed
-pub written : (file : List ℕ) {code size : ℕ} {memory log report before after : List ℕ} → Listed file code memory log report
+pub written : (file : List ℕ) {code size : ℕ} {memory log report before after : List ℕ} → RanToEnd file code memory log report
     → Wrote before 0 (listing file) after size
     → size ≤ length before
     → WroteListing file (record { code = code; length = size }) memory before after

@@ -1,24 +1,25 @@
--- The turns that a plan is listed with. Callers want `few-turns`, `sized`, `one-more` and `all-listed`.
+-- The turns that a plan is listed with. Callers want `few-turns`, `measured`, `turn-more` and `all-listed`.
 use Prim.Native.Nat.{ℕ, zero, suc, _+_, _-_, _*_, _%_, _<_, _≤_}
-use mathlib.Core.Path.{_≡_, refl, sym, ap, _∙_, subst, subst⁻¹}
+use mathlib.Core.Path.{_≡_, sym, ap, _∙_, subst, subst⁻¹}
 use native.Mathlib.Nat as nat
 use mathlib.Core.List.{List, _++_, map}
 use native.Mathlib.Omega.{arith}
 use native.Mathlib.Decide.{decLt}
 use lib.ListN.{length, getD, set, take, length-append, List·getD-append}
 use lib.Seq.{getD-set-same, getD-set-other, getD-append-add, getD-take, ext-getD, length-take-le}
-use Rattle.protocol.specs.Format.{Record, stepsIn, firstIn, workersIn, countFrom, upTo, records, planIn, planOf}
+use Rattle.protocol.specs.Format.{workersLimit, stepsLimit, Record, stepsIn, firstIn, workersIn, countFrom, upTo, records, planIn, planOf}
 use Rattle.protocol.specs.Refusals.{Verdict, accepted, check}
 use Rattle.protocol.specs.Turns.{workersOf}
 use Rattle.protocol.specs.RoundRun.{total, stepCount}
 use Rattle.protocol.specs.Listing.{cycles, listedTurns}
+use Rattle.protocol.proofs.Lists.{length-countFrom, getD-countFrom}
 use Rattle.protocol.proofs.Prefix.{Together}
 use Rattle.protocol.proofs.Accepted.{Accepted, accepted-file, workers-of}
 use Rattle.plan.specs.Answer.{verdictOf}
 use Rattle.plan.specs.Checking.{CheckedAs}
 use Rattle.plan.specs.declared.check.Checked.{Checked}
 use Rattle.plan.specs.declared.check.Layout.{Layout}
-use Rattle.listed.specs.Listed.{turnCount, turnsBy}
+use Rattle.listed.specs.Listed.{turnCount, endingTurns, turnsBy}
 
 -- ---- how many turns
 
@@ -26,13 +27,13 @@ grows : (a b c : ℕ) → a ≤ b → a * c ≤ b * c
 grows a b zero h = omega arith
 grows a b (suc c) h = let k = grows a b c h in omega arith
 
-pub few-turns : (steps n : ℕ) → n ≤ 8 → steps ≤ 128 * n → turnCount steps n ≤ 16512
+pub few-turns : (steps n : ℕ) → n ≤ workersLimit → steps ≤ stepsLimit * n → turnCount steps n ≤ endingTurns
 few-turns steps n h k =
-    let a = grows (2 * (steps + n)) 2064 n (omega arith) in omega arith
+    let a = grows (2 * (steps + n)) (2 * (stepsLimit + 1) * workersLimit) n (omega arith) in omega arith
 
 -- ---- how many steps: those of the workers from i on stand between two first steps
 
-module _ (rs : List Record) (t : Together rs) (few : (w : ℕ) → length (stepsIn rs w) ≤ 128) where
+module _ (rs : List Record) (t : Together rs) (few : (w : ℕ) → length (stepsIn rs w) ≤ stepsLimit) where
   counted-from : (k i : ℕ) → firstIn rs i + total (map (λ w. stepsIn rs w) (countFrom k i)) ≡ firstIn rs (i + k)
   unfolding total countFrom
   counted-from zero i = let g : firstIn rs i ≡ firstIn rs (i + 0) = ap (λ (j : ℕ). firstIn rs j) (omega arith) in omega arith
@@ -42,7 +43,7 @@ module _ (rs : List Record) (t : Together rs) (few : (w : ℕ) → length (steps
       let g : firstIn rs (suc i + k) ≡ firstIn rs (i + suc k) = ap (λ (j : ℕ). firstIn rs j) (omega arith) in
       omega arith
 
-  few-from : (k i : ℕ) → total (map (λ w. stepsIn rs w) (countFrom k i)) ≤ 128 * k
+  few-from : (k i : ℕ) → total (map (λ w. stepsIn rs w) (countFrom k i)) ≤ stepsLimit * k
   unfolding total countFrom
   few-from zero i = omega arith
   few-from (suc k) i = let f = few i in let g = few-from k (suc i) in omega arith
@@ -57,7 +58,7 @@ module _ (file : List ℕ) (ok : check file ≡ accepted) where
   some-workers : 1 ≤ workersIn rs
   some-workers = a .least
 
-  few-workers : workersIn rs ≤ 8
+  few-workers : workersIn rs ≤ workersLimit
   few-workers = a .most
 
   steps-counted : firstIn rs 0 + stepCount (planOf file) ≡ firstIn rs (workersIn rs)
@@ -65,21 +66,21 @@ module _ (file : List ℕ) (ok : check file ≡ accepted) where
   steps-counted =
       counted-from rs (a .read .together) (a .read .few) (workersIn rs) 0 ∙ ap (λ (j : ℕ). firstIn rs j) (omega arith)
 
-  steps-few : stepCount (planOf file) ≤ 128 * workersIn rs
+  steps-few : stepCount (planOf file) ≤ stepsLimit * workersIn rs
   unfolding planIn
   steps-few = few-from rs (a .read .together) (a .read .few) (workersIn rs) 0
 
 -- What an accepted file's layout tells of its turns.
-pub record Sized (file : List ℕ) (l : Layout) : Type 0 where
+pub record Measured (file : List ℕ) (l : Layout) : Type 0 where
   pub ok : check file ≡ accepted
   pub workers : l .workers ≡ workersIn (records file)
   pub some : 0 < l .workers
-  pub most : l .workers ≤ 8
+  pub most : l .workers ≤ workersLimit
   pub counted : getD (l .firsts) 0 0 + stepCount (planOf file) ≡ getD (l .firsts) (l .workers) 0
-  pub few : stepCount (planOf file) ≤ 128 * l .workers
+  pub few : stepCount (planOf file) ≤ stepsLimit * l .workers
 
-pub sized : (file : List ℕ) (r : Checked) → CheckedAs file r → verdictOf (r .verdict) ≡ accepted → Sized file (r .layout)
-sized file r checked e =
+pub measured : (file : List ℕ) (r : Checked) → CheckedAs file r → verdictOf (r .verdict) ≡ accepted → Measured file (r .layout)
+measured file r checked e =
     let ok = sym (checked .verdict) ∙ e in
     let laid = checked .layout e in
     let n = laid .workers in
@@ -97,23 +98,12 @@ sized file r checked e =
 
 -- ---- the cycles, turn by turn
 
-pub length-up : (k i : ℕ) → length (countFrom k i) ≡ k
-unfolding countFrom
-length-up zero i = refl
-length-up (suc k) i = ap suc (length-up k (suc i))
-
-up-at : (k i j : ℕ) → j < k → getD (countFrom k i) j 0 ≡ i + j
-unfolding countFrom
-up-at zero i j h = absurd (omega arith)
-up-at (suc k) i zero h = omega arith
-up-at (suc k) i (suc j) h = up-at k (suc i) j (omega arith) ∙ omega arith
-
 length-cycles : (n k : ℕ) → length (cycles n k) ≡ k * n
 unfolding cycles
 length-cycles n zero = omega arith
 length-cycles n (suc k) =
     let a = length-append (upTo n) (cycles n k) in
-    let b = length-up n 0 in
+    let b = length-countFrom n 0 in
     let c = length-cycles n k in
     let d = nat.suc-mul k n in
     omega arith
@@ -124,10 +114,10 @@ cycle-at n zero i h = absurd (omega (arith, nat.zero-mul n))
 cycle-at n (suc k) i h =
     elim (decLt i n) [
       | yes l ↦
-          List·getD-append (upTo n) (cycles n k) 0 i (omega (arith, length-up n 0))
-          ∙ (up-at n 0 i l ∙ (omega arith ∙ sym (nat.mod-eq-of-lt l)))
+          List·getD-append (upTo n) (cycles n k) 0 i (omega (arith, length-countFrom n 0))
+          ∙ (getD-countFrom n 0 i 0 l ∙ (omega arith ∙ sym (nat.mod-eq-of-lt l)))
       | no l ↦
-          let there : length (upTo n) + (i - n) ≡ i = let e = length-up n 0 in omega arith in
+          let there : length (upTo n) + (i - n) ≡ i = let e = length-countFrom n 0 in omega arith in
           ap (λ (j : ℕ). getD (upTo n ++ cycles n k) j 0) (sym there)
           ∙ (getD-append-add (upTo n) (cycles n k) (i - n) 0
           ∙ (cycle-at n k (i - n) (omega (arith, nat.suc-mul k n))
@@ -135,9 +125,9 @@ cycle-at n (suc k) i h =
     ]
 
 -- one turn more is written
-pub one-more : (turns : List ℕ) (n i : ℕ) → i < length turns → ((j : ℕ) → j < i → getD turns j 0 ≡ j % n)
+pub turn-more : (turns : List ℕ) (n i : ℕ) → i < length turns → ((j : ℕ) → j < i → getD turns j 0 ≡ j % n)
     → (j : ℕ) → j < i + 1 → getD (set turns i (i % n)) j 0 ≡ j % n
-one-more turns n i h each j l =
+turn-more turns n i h each j l =
     elim (decLt j i) [
       | yes b ↦ getD-set-other turns i j (i % n) 0 (omega arith) ∙ each j b
       | no b ↦
@@ -165,11 +155,13 @@ whole-listed file turns steps n ok sameN sameSteps fits each =
         getD-take (turnCount steps n) turns i 0 l ∙ (each i l ∙ sym (cycle-at n (2 * (steps + n)) i l))
 
 -- the turns that were written, by the numbers of the layout
-pub all-listed : (file turns : List ℕ) (l : Layout) (count : ℕ) → Sized file l → count ≡ turnCount (getD (l .firsts) (l .workers) 0 - getD (l .firsts) 0 0) (l .workers)
+pub all-listed : (file turns : List ℕ) (l : Layout) (count : ℕ) → Measured file l
+    → count ≡ turnCount (getD (l .firsts) (l .workers) 0 - getD (l .firsts) 0 0) (l .workers)
     → count ≤ length turns
     → ((i : ℕ) → i < count → getD turns i 0 ≡ i % l .workers)
     → take count turns ≡ turnsBy (check file) file
 all-listed file turns l count s same fits each =
     ap (λ (k : ℕ). take k turns) same
-    ∙ (whole-listed file turns _ (l .workers) (s .ok) (s .workers) (omega (arith, s .counted)) (subst (λ (k : ℕ). k ≤ length turns) same fits) (λ i h. each i (subst⁻¹ (λ (k : ℕ). i < k) same h))
+    ∙ (whole-listed file turns _ (l .workers) (s .ok) (s .workers) (omega (arith, s .counted)) (subst (λ (k : ℕ). k ≤ length turns) same fits)
+    (λ i h. each i (subst⁻¹ (λ (k : ℕ). i < k) same h))
     ∙ sym (ap (λ (v : Verdict). turnsBy v file) (s .ok)))

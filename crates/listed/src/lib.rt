@@ -3,11 +3,18 @@ mod run;
 mod turns;
 
 use crate::run::run_listed;
+use journal::log::ENTRIES_LIMIT;
+use journal::log::LOG_LENGTH;
+use journal::report::REPORT_LENGTH;
+use journal::report::REPORT_RECORDS;
 use libc::STDOUT_FILENO;
-use plan::decode::pair;
+use tampermauve::ACCEPTED;
+use text::lines::END_LINE_LIMIT;
+use text::lines::RECORD_LINE_LIMIT;
 use text::lines::write_end;
 use text::lines::write_log;
 use text::lines::write_refusal;
+use words::word_at;
 ghost use mathlib.Core.Path.{_≡_};
 ghost use Prim.Native.Nat.{_≤_};
 ghost use lib.ListN.{length, replicate};
@@ -15,8 +22,8 @@ ghost use Rattle.protocol.specs.Calls.{checkCode, memoryLength};
 ghost use Rattle.listed.specs.Listed.{listedRun};
 ghost use Rattle.listed.specs.Text.{textRoom, WroteListing};
 
-// Room for any listing.
-pub const TEXT_ROOM: usize = 22720;
+// Room for any listing: a line for each record, and the last line.
+pub const TEXT_ROOM: usize = RECORD_LINE_LIMIT * ENTRIES_LIMIT + END_LINE_LIMIT;
 
 // What tampermauve_check returns, and how long the text is.
 pub struct Written {
@@ -31,14 +38,14 @@ pub fn write_listing(file: &[u8], memory: &mut [u8], text: &mut [u8]) -> Written
     requires { ⌜ textRoom ≤ length (now text) ⌝ }
     ensures { λ r. ⌜ WroteListing (now (file .entry)) r (now (memory .exit)) (now (text .entry)) (now (text .exit)) ⌝ }
 {
-    let mut log = [0u8; 8256];
-    let mut report = [0u8; 16];
+    let mut log = [0u8; LOG_LENGTH];
+    let mut report = [0u8; REPORT_LENGTH];
     let code = run_listed(file, memory, &mut log, &mut report);
-    if code != 0 {
+    if code != ACCEPTED {
         let length = write_refusal(code, text, 0);
         return Written { code, length };
     }
-    let records = pair(report[6], report[7]) as usize;
+    let records = word_at(&report, REPORT_RECORDS) as usize;
     let end = write_log(&log, records, text, 0);
     let length = write_end(&report, text, end);
     Written { code, length }

@@ -10,6 +10,7 @@ use native.Mathlib.Decide.{decLt}
 use lib.Dec.{ltb, eqb}
 use lib.ListN.{length, getD, List·getD-eq-default}
 use borrow.Author.Tests.{lt-ltb, le-ltb, ltb-false, eq-eqb, eqb-false, not-true, not-false}
+use Rattle.protocol.specs.Calls.{addressLimit}
 use Rattle.protocol.specs.Ops.{opSet, opLoad, opStore, opAdd, opSubtract, opSkipZero, opSkipNonzero, opLock, opWait, opBarrier, opExit}
 use Rattle.protocol.specs.Format as format
 use Rattle.protocol.specs.Format.{registerCount, stepsLimit, Row, table, rowIn, rowOf, isStep, recordFrom, recordsFrom, recordCount, records, Step, sync, exit, stepOf, stepsIn, sizeIn, firstIn, planOf, barrierCount, recordLength, sizeLimit}
@@ -47,7 +48,7 @@ record Ranged (x : Row) : Type 0 where
   most : x .op ≤ opExit
   apart : x .op < opLock → x .op ≤ opSkipNonzero
   named : x .op ≤ opSkipNonzero → x .registers < registerCount
-  address : opLoad ≤ x .op → x .op ≤ opStore → x .most ≤ 2046
+  address : opLoad ≤ x .op → x .op ≤ opStore → x .most ≤ addressLimit
   operand : opAdd ≤ x .op → x .op ≤ opSubtract → x .most < registerCount
   skip : opSkipZero ≤ x .op → x .op ≤ opSkipNonzero → (1 ≤ x .least) × (x .most < stepsLimit)
   object : opLock ≤ x .op → x .most ≤ 15

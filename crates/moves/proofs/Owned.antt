@@ -15,7 +15,7 @@ use Rattle.protocol.specs.Steps as steps
 use Rattle.protocol.specs.Steps.{Fate, going, ownStep}
 use Rattle.protocol.proofs.OwnMoves.{own-leaves}
 use Rattle.plan.specs.declared.decode.Record.{Record}
-use Rattle.pages.specs.Copies.{copiesIn, WorkerHolds}
+use Rattle.pages.specs.Copies.{copiesIn, WorkerHolds, slotCount}
 use Rattle.worker.proofs.OwnSteps.{step-own}
 use Rattle.worker.specs.Private.{viewed, ownOf, copiesAfter, OwnStepped}
 use Rattle.worker.specs.declared.Worker.{Worker}
@@ -93,7 +93,7 @@ own-copies memory op register number v e =
 -- the parts of an own step make the whole
 pub own-moved :
     (v : Worker) (r : Record) (w : ℕ) (memory : List ℕ) (marks : List Bool) (work : List ℕ) (marks′ : List Bool) (work′ : List ℕ) (read : ℕ) (m : Moved)
-    → length marks ≡ 64
+    → length marks ≡ slotCount
     → (r .op ≡ opLoad → read ≡ loadWord memory (copiesIn marks work w) (r .number))
     → OwnStepped v (r .op) (r .register) (r .number) read m
     → WorkerHolds w (copiesLeft (r .op) (m .outcome) memory (copiesIn marks work w) (r .number)) marks work marks′ work′

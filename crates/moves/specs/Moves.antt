@@ -6,13 +6,14 @@ use mathlib.Core.Path.{_≡_}
 use mathlib.Core.List.{List}
 use lib.Dec.{eqb, ltb}
 use lib.ListN.{length, getD}
+use Rattle.protocol.specs.Calls.{addressLimit}
 use Rattle.protocol.specs.Ops.{opSet, opLoad, opStore, opAdd, opSubtract, opSkipZero, opSkipNonzero, opLock, opWait, opBarrier, opExit}
 use Rattle.protocol.specs.Format.{recordLength, registerCount, stepsLimit, barrierCount, sizeLimit, recordFrom, Step, stepOf}
 use Rattle.protocol.specs.Steps.{Fate, ownStep}
 use Rattle.protocol.specs.Pages.{Copies, loadWord}
 use Rattle.plan.specs.Answer.{bodyOf}
 use Rattle.plan.specs.declared.decode.Record.{Record}
-use Rattle.pages.specs.Copies.{copiesIn}
+use Rattle.pages.specs.Copies.{copiesIn, slotCount}
 use Rattle.worker.specs.Private.{viewed, ownOf, copiesAfter, OwnStepping}
 use Rattle.worker.specs.declared.Worker.{Worker}
 use Rattle.worker.specs.declared.Outcome.{Outcome}
@@ -34,7 +35,7 @@ stepOfBody r = stepOf (record { mark = 0; worker = r .worker; op = r .op; regist
 pub record InRange (sizes : List ℕ) (r : Record) : Type 0 where
   pub kind : ((opSet ≤ r .op) × (r .op ≤ opSkipNonzero)) ⊎ ((opLock ≤ r .op) × (r .op ≤ opExit))
   pub named : r .op ≤ opSkipNonzero → r .register < registerCount
-  pub address : opLoad ≤ r .op → r .op ≤ opStore → r .number ≤ 2046
+  pub address : opLoad ≤ r .op → r .op ≤ opStore → r .number ≤ addressLimit
   pub operand : opAdd ≤ r .op → r .op ≤ opSubtract → r .number < registerCount
   pub skip : opSkipZero ≤ r .op → r .op ≤ opSkipNonzero → (1 ≤ r .number) × (r .number < stepsLimit)
   pub object : opLock ≤ r .op → r .number ≤ 15
@@ -45,7 +46,7 @@ pub record InRange (sizes : List ℕ) (r : Record) : Type 0 where
 -- what an own step takes
 pub record OwnMoving (v : Worker) (r : Record) : Type 0 where
   pub ready : OwnStepping v (r .op) (r .register) (r .number)
-  pub address : opLoad ≤ r .op → r .op ≤ opStore → r .number ≤ 2046
+  pub address : opLoad ≤ r .op → r .op ≤ opStore → r .number ≤ addressLimit
 
 -- what a step reads of its address: a load the number there, any other step 0
 abbrev pub readBy : ℕ → List ℕ → Copies → ℕ → ℕ
@@ -63,5 +64,5 @@ pub record OwnMoved (v : Worker) (r : Record) (w : ℕ) (memory : List ℕ) (mar
       ≡ viewed v′ arrived (copiesIn marks′ work′ w) fate
   pub others : (u : ℕ) → (u ≡ w → ⊥) → copiesIn marks′ work′ u ≡ copiesIn marks work u
   pub size : length work′ ≡ length work
-  pub markSize : length marks′ ≡ 64
+  pub markSize : length marks′ ≡ slotCount
   pub held : v′ .held ≡ v .held

@@ -1,6 +1,7 @@
 // A worker's next step, and its own steps on the lent bytes.
 use format::limits::RECORD_LENGTH;
 use format::ops;
+use pages::SLOTS;
 use pages::load;
 use pages::store;
 use plan::decode::Record;
@@ -10,9 +11,10 @@ use worker::Worker;
 ghost use mathlib.Core.Path.{_≡_};
 ghost use Prim.Native.Nat.{_*_, _<_, _≤_};
 ghost use lib.ListN.{length};
+ghost use Rattle.protocol.specs.Calls.{addressLimit};
 ghost use Rattle.protocol.specs.Ops.{opLoad, opStore};
-ghost use Rattle.protocol.specs.Format.{recordLength, stepsLimit};
-ghost use Rattle.pages.specs.Copies.{Sizes, copiesIn, WorkerHolds};
+ghost use Rattle.protocol.specs.Format.{workersLimit, recordLength, stepsLimit};
+ghost use Rattle.pages.specs.Copies.{Lent, copiesIn, WorkerHolds, slotCount};
 ghost use Rattle.moves.specs.Moves.{fetchedAs, readBy, OwnMoving, copiesLeft, OwnMoved};
 
 // The record of the step at a worker's place, whose steps are the records from `first` to before `end`.
@@ -33,8 +35,8 @@ pub fn fetch(file: &[u8], first: usize, end: usize, place: usize) -> Record
 }
 
 // What a load reads; 0 for any other step.
-fn loaded(r: Record, w: usize, memory: &[u8], work: &[u8], copied: &[bool; 64]) -> u16
-    requires { ⌜ Sizes (now memory) (now work) × (w < 8) × (r .op ≡ opLoad → r .number ≤ 2046) ⌝ }
+fn loaded(r: Record, w: usize, memory: &[u8], work: &[u8], copied: &[bool; SLOTS]) -> u16
+    requires { ⌜ Lent (now memory) (now work) × (w < workersLimit) × (r .op ≡ opLoad → r .number ≤ addressLimit) ⌝ }
     ensures { λ l. ⌜ l ≡ readBy (r .op) (now (memory .entry)) (copiesIn (now (copied .entry)) (now (work .entry)) w) (r .number) ⌝ }
 {
     if r.op != ops::LOAD {
@@ -50,9 +52,9 @@ fn keep(
     w: usize,
     memory: &[u8],
     work: &mut [u8],
-    copied: &mut [bool; 64],
+    copied: &mut [bool; SLOTS],
 )
-    requires { ⌜ Sizes (now memory) (now work) × (length (now copied) ≡ 64) × (w < 8) × (r .op ≡ opStore → r .number ≤ 2046) ⌝ }
+    requires { ⌜ Lent (now memory) (now work) × (length (now copied) ≡ slotCount) × (w < workersLimit) × (r .op ≡ opStore → r .number ≤ addressLimit) ⌝ }
     ensures { λ _. ⌜ WorkerHolds w (copiesLeft (r .op) outcome (now (memory .entry)) (copiesIn (now (copied .entry)) (now (work .entry)) w) (r .number)) (now (copied .entry)) (now (work .entry)) (now (copied .exit)) (now (work .exit)) ⌝ }
 {
     if r.op != ops::STORE {
@@ -71,9 +73,9 @@ pub fn own_move(
     w: usize,
     memory: &[u8],
     work: &mut [u8],
-    copied: &mut [bool; 64],
+    copied: &mut [bool; SLOTS],
 ) -> Worker
-    requires { ⌜ Sizes (now memory) (now work) × (length (now copied) ≡ 64) × (w < 8) × OwnMoving v r ⌝ }
+    requires { ⌜ Lent (now memory) (now work) × (length (now copied) ≡ slotCount) × (w < workersLimit) × OwnMoving v r ⌝ }
     ensures { λ v′. ⌜ OwnMoved v r w (now (memory .entry)) (now (copied .entry)) (now (work .entry)) (now (copied .exit)) (now (work .exit)) v′ ⌝ }
 {
     let read = loaded(r, w, memory, work, copied);

@@ -10,7 +10,7 @@ use lib.ListN.{length, getD, set, take, length-set, length-take, List·getD-eq-d
 use lib.Seq.{ext-getD, getD-set-same, getD-set-other, getD-take}
 use borrow.Author.Tests.{eq-eqb, ne-eqb}
 use Rattle.protocol.specs.Pages.{pageSize, pageCount, Copy, absent, copied, Copies, noCopies, pageOf, offsetOf, copyOf, committed, commitFrom, commit}
-use Rattle.pages.proofs.Parts.{getD-same}
+use Rattle.protocol.proofs.Lists.{getD-copies}
 
 -- ---- the first elements of a list, and one more of them
 
@@ -66,7 +66,7 @@ commit-nothing memory = commit-is [] memory memory refl (λ i h. refl)
 pub commit-none : (memory : List ℕ) → memory ≡ commit noCopies memory
 unfolding noCopies
 commit-none memory = commit-is noCopies memory memory refl (λ j h.
-    ap (λ (k : Copy). committed k (offsetOf j) (getD memory j 0)) (sym (getD-same pageCount (pageOf j) absent)))
+    ap (λ (k : Copy). committed k (offsetOf j) (getD memory j 0)) (sym (getD-copies absent pageCount (pageOf j))))
 
 -- ---- one page alone
 
@@ -81,7 +81,7 @@ module _ (p : ℕ) (copy : Copy) (h : p < pageCount) (j shared : ℕ) where
   unfolding noCopies
   off-page ne =
       ap (λ (k : Copy). committed k (offsetOf j) shared)
-      (getD-set-other noCopies p (pageOf j) copy absent ne ∙ getD-same pageCount (pageOf j) absent)
+      (getD-set-other noCopies p (pageOf j) copy absent ne ∙ getD-copies absent pageCount (pageOf j))
 
 -- a copy that changes nothing
 commit-same : (p : ℕ) → p < pageCount → (memory : List ℕ) (copy : Copy) → ((offset shared : ℕ) → committed copy offset shared ≡ shared)

@@ -1,20 +1,19 @@
 -- A page's worth of a list, after a store and after a copy: there, or elsewhere.
-use Prim.Native.Nat.{ℕ, zero, suc, _+_, _-_, _<_, _≤_}
+use Prim.Native.Nat.{ℕ, _+_, _-_, _<_, _≤_}
 use native.Mathlib.Decide.{decLt}
 use native.Mathlib.Omega.{arith}
 use native.Mathlib.Numerals.{add-one}
-use mathlib.Core.Path.{_≡_, refl, sym, ap, _∙_, subst}
+use mathlib.Core.Path.{_≡_, sym, ap, _∙_, subst}
 use mathlib.Core.Logic.{_⊎_, inl, inr}
-use mathlib.Core.List.{List, _++_, map, append-assoc}
-use lib.ListN.{length, replicate, getD, set, take, drop, length-drop, take-append-drop, List·getD-eq-default}
+use mathlib.Core.List.{List, _++_, append-assoc}
+use lib.ListN.{length, getD, set, take, drop, length-drop, take-append-drop, List·getD-eq-default}
 use lib.Seq.{take-append-le, drop-append-le, length-take-le, take-at, drop-at, drop-drop, drop-paste, paste, paste-suc, take-set-lt, take-set-le, drop-set-add, drop-set-lt, getD-take, getD-drop, getD-set-same, set-out}
-use Rattle.protocol.specs.Format.{countFrom}
 use Rattle.protocol.specs.Pages.{pageSize}
 use Rattle.pages.specs.Copies.{part}
 
--- two places are apart: the stretch of n from one, and of a page from the other, have nothing in common
-abbrev pub Apart : ℕ → ℕ → ℕ → Type 0
-Apart at n b = (at + n ≤ b) ⊎ (b + pageSize ≤ at)
+-- two places are disjoint: the stretch of n from one, and of a page from the other, have nothing in common
+abbrev pub Disjoint : ℕ → ℕ → ℕ → Type 0
+Disjoint at n b = (at + n ≤ b) ⊎ (b + pageSize ≤ at)
 
 pub getD-part : (b : ℕ) (l : List ℕ) (i : ℕ) → i < pageSize → getD (part b l) i 0 ≡ getD l (b + i) 0
 getD-part b l i h = getD-take pageSize (drop b l) i 0 h ∙ getD-drop b l i 0
@@ -24,7 +23,7 @@ getD-part b l i h = getD-take pageSize (drop b l) i 0 h ∙ getD-drop b l i 0
 pub part-set-here : (b : ℕ) (l : List ℕ) (i v : ℕ) → i < pageSize → part b (set l (b + i) v) ≡ set (part b l) i v
 part-set-here b l i v h = ap (λ (k : List ℕ). take pageSize k) (drop-set-add b l i v) ∙ take-set-lt pageSize (drop b l) i v h
 
-pub part-set-apart : (b : ℕ) (l : List ℕ) (at v : ℕ) → Apart at 1 b → part b (set l at v) ≡ part b l
+pub part-set-apart : (b : ℕ) (l : List ℕ) (at v : ℕ) → Disjoint at 1 b → part b (set l at v) ≡ part b l
 part-set-apart b l at v (inl h) = ap (λ (k : List ℕ). take pageSize k) (drop-set-lt b l at v (omega arith))
 part-set-apart b l at v (inr h) =
     subst (λ (k : ℕ). part b (set l k v) ≡ part b l) e
@@ -40,12 +39,6 @@ getD-set-default {A} l i d = elim (decLt i (length l)) [
   | no h ↦ ap (λ (k : List A). getD k i d) (set-out l i d (omega arith)) ∙ List·getD-eq-default l d (omega arith)
 ]
 
--- the default, at every place
-pub getD-same : {A : Type 0} (n i : ℕ) (d : A) → getD (replicate n d) i d ≡ d
-getD-same zero i d = refl
-getD-same (suc n) zero d = refl
-getD-same (suc n) (suc i) d = getD-same n i d
-
 -- ---- a copy of n elements
 
 part-front : (b : ℕ) (xs ys : List ℕ) → b + pageSize ≤ length xs → part b (xs ++ ys) ≡ part b xs
@@ -60,7 +53,7 @@ module _ (d s : List ℕ) (at : ℕ) (inside : at + pageSize ≤ length d) (enou
       ∙ ap (λ (l : List ℕ). take pageSize l) (drop-at (take at d) _ at (length-take-le at d (omega arith)))
       ∙ take-at (take pageSize s) _ pageSize (length-take-le pageSize s enough)
 
-  pub part-paste-apart : (b : ℕ) → Apart at pageSize b → part b (paste d at s pageSize) ≡ part b d
+  pub part-paste-apart : (b : ℕ) → Disjoint at pageSize b → part b (paste d at s pageSize) ≡ part b d
   part-paste-apart b (inl h) =
       let past : at + pageSize + (b - (at + pageSize)) ≡ b = omega arith in
       subst (λ (k : ℕ). part k (paste d at s pageSize) ≡ part k d) past
@@ -83,16 +76,3 @@ copy-more d from l at start j e h₁ h₂ =
     ∙ ap (λ (v : ℕ). set (paste d at (drop start from) j) (at + j) v) (sym (getD-drop start from j 0))
     ∙ paste-suc d at (drop start from) j 0 h₁ (simp length-drop (omega arith))
     ∙ ap (λ (k : ℕ). paste d at (drop start from) k) (sym (add-one j))
-
--- ---- what is listed by number
-
-pub getD-count : {A : Type 0} (f : ℕ → A) (d : A) (k i n : ℕ) → n < k → getD (map f (countFrom k i)) n d ≡ f (i + n)
-unfolding countFrom
-getD-count f d zero i n h = absurd (omega arith)
-getD-count f d (suc k) i zero h = ap f (omega arith)
-getD-count f d (suc k) i (suc n) h = getD-count f d k (suc i) n (omega arith) ∙ ap f (omega arith)
-
-pub length-count : {A : Type 0} (f : ℕ → A) (k i : ℕ) → length (map f (countFrom k i)) ≡ k
-unfolding countFrom
-length-count f zero i = refl
-length-count f (suc k) i = ap suc (length-count f k (suc i))

@@ -4,13 +4,16 @@ use native.Mathlib.Omega.{arith}
 use native.Mathlib.Decide.{ℕ-discrete, decLt}
 use mathlib.Core.Path.{_≡_, refl, sym, ap, _∙_, subst, subst⁻¹}
 use mathlib.Core.Logic.{inl, inr}
-use mathlib.Core.Bool.{Bool, true, false, _||_}
+use mathlib.Core.Bool.{Bool, true, false}
 use mathlib.Core.List.{List}
 use lib.ListN.{length, getD, set, take, drop, length-set, length-drop, replicate, length-replicate}
 use lib.Seq.{ext-getD, getD-set-same, getD-set-other, paste, length-paste, take-take}
+use Rattle.protocol.specs.Calls.{memoryLength, workLength}
 use Rattle.protocol.specs.Pages.{pageSize, pageCount, page, Copy, absent, copied, Copies, noCopies, pageOf, offsetOf, copyOf, loaded, loadByte, opened, stored, storeByte, storeWord}
-use Rattle.pages.specs.Copies.{part, slotOf, copyAt, twinAt, marked, slotCopy, copyIn, copiesIn, anyCopied, SlotHolds, WorkerHolds}
-use Rattle.pages.proofs.Parts.{Apart, getD-same, getD-part, part-set-here, part-set-apart, part-paste-here, part-paste-apart, getD-count, length-count}
+use Rattle.protocol.proofs.Bools.{or-left, or-right}
+use Rattle.protocol.proofs.Lists.{getD-copies, length-counted, mapped}
+use Rattle.pages.specs.Copies.{slotCount, part, slotOf, copyAt, twinAt, marked, slotCopy, copyIn, copiesIn, anyCopied, SlotHolds, WorkerHolds}
+use Rattle.pages.proofs.Parts.{Disjoint, getD-part, part-set-here, part-set-apart, part-paste-here, part-paste-apart}
 
 -- ---- what a slot holds
 
@@ -43,11 +46,11 @@ same-slot marks marks′ work work′ s m a b = cc
 
 pub length-copies : (marks : List Bool) (work : List ℕ) (w : ℕ) → length (copiesIn marks work w) ≡ pageCount
 unfolding copiesIn
-length-copies marks work w = length-count _ pageCount 0
+length-copies marks work w = length-counted _ pageCount 0
 
 pub copies-at : (marks : List Bool) (work : List ℕ) (w p : ℕ) → p < pageCount → copyOf (copiesIn marks work w) p ≡ copyIn marks work w p
 unfolding copiesIn
-copies-at marks work w p h = getD-count (λ q. copyIn marks work w q) absent pageCount 0 p h ∙ ap (λ (q : ℕ). copyIn marks work w q) (omega arith)
+copies-at marks work w p h = mapped (λ q. copyIn marks work w q) pageCount p absent h
 
 pub copies-are : (marks : List Bool) (work : List ℕ) (w : ℕ) (copies : Copies) → length copies ≡ pageCount
     → ((p : ℕ) → p < pageCount → copyIn marks work w p ≡ copyOf copies p) → copiesIn marks work w ≡ copies
@@ -59,21 +62,16 @@ copies-are marks work w copies n h =
 pub unmarked : (n : ℕ) (work : List ℕ) (w : ℕ) → copiesIn (replicate n false) work w ≡ noCopies
 unfolding noCopies
 unmarked n work w = copies-are (replicate n false) work w noCopies (length-replicate pageCount absent) (λ p h.
-    not-in-use (replicate n false) work (slotOf w p) (getD-same n (slotOf w p) false) ∙ sym (getD-same pageCount p absent))
-
-neither : (a b : Bool) → a || b ≡ false → (a ≡ false) × (b ≡ false)
-neither false b e = (refl, e)
-neither true b e = (e, cc)
+    not-in-use (replicate n false) work (slotOf w p) (getD-copies false n (slotOf w p)) ∙ sym (getD-copies absent pageCount p))
 
 -- none of the first k pages is copied
 pub none-copied : (marks : List Bool) (w k : ℕ) → anyCopied marks w k ≡ false → (p : ℕ) → p < k → getD marks (slotOf w p) false ≡ false
 unfolding anyCopied
 none-copied marks w zero e p h = absurd (omega arith)
 none-copied marks w (suc k) e p h =
-    let off = neither (anyCopied marks w k) (getD marks (slotOf w k) false) e in
     elim (ℕ-discrete p k) [
-      | yes same ↦ ap (λ (q : ℕ). getD marks (slotOf w q) false) same ∙ off .1
-      | no other ↦ none-copied marks w k (off .0) p (omega arith)
+      | yes same ↦ ap (λ (q : ℕ). getD marks (slotOf w q) false) same ∙ or-right (anyCopied marks w k) e
+      | no other ↦ none-copied marks w k (or-left (anyCopied marks w k) _ e) p (omega arith)
     ]
 
 -- one slot changed is one page of its worker changed
@@ -109,7 +107,7 @@ unfolding noCopies
 unmarked-worker w marks marks′ work same off kept =
     record {
       mine = copies-are marks′ work w noCopies (length-replicate pageCount absent) (λ p h.
-          not-in-use marks′ work (slotOf w p) (off p h) ∙ sym (getD-same pageCount p absent));
+          not-in-use marks′ work (slotOf w p) (off p h) ∙ sym (getD-copies absent pageCount p));
       others = λ v ne. copies-are marks′ work v _ (length-copies marks work v) (λ q h.
           same-slot marks marks′ work work (slotOf v q) (kept (slotOf v q) (λ p b e. ne (omega arith))) refl refl ∙ sym (copies-at marks work v q h));
       size = refl;
@@ -120,7 +118,7 @@ unmarked-worker w marks marks′ work same off kept =
 
 -- a stretch within one slot is apart from a page within another
 slots-apart : (slot s at n b : ℕ) → (s ≡ slot → ⊥) → copyAt slot ≤ at → at + n ≤ twinAt slot + pageSize
-    → copyAt s ≤ b → b ≤ twinAt s → Apart at n b
+    → copyAt s ≤ b → b ≤ twinAt s → Disjoint at n b
 slots-apart slot s at n b ne h₁ h₂ h₃ h₄ = elim (decLt s slot) [
   | yes h ↦ inr (omega arith)
   | no h ↦ inl (omega arith)
@@ -158,8 +156,8 @@ store-slot slot offset byte copy marks work marks′ work′ h holds =
     stored-work = set work′ (copyAt slot + offset) byte
 
 -- a page copied twice into a slot that was not in use
-module _ (slot p : ℕ) (memory : List ℕ) (marks : List Bool) (work : List ℕ) (ph : p < pageCount) (lm : length memory ≡ 2048)
-    (lw : length work ≡ 32768) (sh : slot < 64) (lk : length marks ≡ 64) (off : getD marks slot false ≡ false) where
+module _ (slot p : ℕ) (memory : List ℕ) (marks : List Bool) (work : List ℕ) (ph : p < pageCount) (lm : length memory ≡ memoryLength)
+    (lw : length work ≡ workLength) (sh : slot < slotCount) (lk : length marks ≡ slotCount) (off : getD marks slot false ≡ false) where
   abbrev source : List ℕ
   source = drop (pageSize * p) memory
 
@@ -181,7 +179,7 @@ module _ (slot p : ℕ) (memory : List ℕ) (marks : List Bool) (work : List ℕ
   inside′ : twinAt slot + pageSize ≤ length once
   inside′ = rw once-size (omega arith)
 
-  untouched : (b : ℕ) → Apart (copyAt slot) pageSize b → Apart (twinAt slot) pageSize b → part b twice ≡ part b work
+  untouched : (b : ℕ) → Disjoint (copyAt slot) pageSize b → Disjoint (twinAt slot) pageSize b → part b twice ≡ part b work
   untouched b h₁ h₂ = part-paste-apart once source (twinAt slot) inside′ enough b h₂ ∙ part-paste-apart work source (copyAt slot) inside enough b h₁
 
   working-copy : part (copyAt slot) twice ≡ take pageSize source
@@ -204,8 +202,10 @@ module _ (slot p : ℕ) (memory : List ℕ) (marks : List Bool) (work : List ℕ
             ∙ sym (ap (λ (k : Copy). opened (take pageSize source) k) (not-in-use marks work slot off));
         elsewhere = λ s ne.
             same-slot marks (set marks slot true) work twice s (getD-set-other marks slot s true false ne)
-            (untouched (copyAt s) (slots-apart slot s _ _ _ ne (omega arith) (omega arith) (omega arith) (omega arith)) (slots-apart slot s _ _ _ ne (omega arith) (omega arith) (omega arith) (omega arith)))
-            (untouched (twinAt s) (slots-apart slot s _ _ _ ne (omega arith) (omega arith) (omega arith) (omega arith)) (slots-apart slot s _ _ _ ne (omega arith) (omega arith) (omega arith) (omega arith)));
+            (untouched (copyAt s) (slots-apart slot s _ _ _ ne (omega arith) (omega arith) (omega arith) (omega arith))
+            (slots-apart slot s _ _ _ ne (omega arith) (omega arith) (omega arith) (omega arith)))
+            (untouched (twinAt s) (slots-apart slot s _ _ _ ne (omega arith) (omega arith) (omega arith) (omega arith))
+            (slots-apart slot s _ _ _ ne (omega arith) (omega arith) (omega arith) (omega arith)));
         size = length-paste once (twinAt slot) source pageSize inside′ enough ∙ once-size;
         markSize = length-set marks slot true;
       }
@@ -224,7 +224,7 @@ open-again slot bytes marks work on =
 -- ---- a store
 
 -- a byte stored into an open page
-pub store-open : (memory : List ℕ) (w a byte : ℕ) (marks : List Bool) (work : List ℕ) (marks′ : List Bool) (work′ : List ℕ) → a < 2048
+pub store-open : (memory : List ℕ) (w a byte : ℕ) (marks : List Bool) (work : List ℕ) (marks′ : List Bool) (work′ : List ℕ) → a < memoryLength
     → SlotHolds (slotOf w (pageOf a)) (opened (page memory (pageOf a)) (copyIn marks work w (pageOf a))) marks work marks′ work′
     → WorkerHolds w (storeByte memory (copiesIn marks work w) a byte) marks work marks′ (set work′ (copyAt (slotOf w (pageOf a)) + offsetOf a) byte)
 unfolding storeByte
@@ -260,7 +260,7 @@ store-both memory w a b number low high marks work marks₁ work₁ marks₂ wor
 
 -- ---- a load
 
-module _ (memory : List ℕ) (marks : List Bool) (work : List ℕ) (w a : ℕ) (h : a < 2048) where
+module _ (memory : List ℕ) (marks : List Bool) (work : List ℕ) (w a : ℕ) (h : a < memoryLength) where
   abbrev at-slot : ℕ
   at-slot = slotOf w (pageOf a)
 

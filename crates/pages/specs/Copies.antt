@@ -4,7 +4,8 @@ use mathlib.Core.Path.{_≡_}
 use mathlib.Core.Bool.{Bool, true, false, _||_}
 use mathlib.Core.List.{List, map}
 use lib.ListN.{length, getD, take, drop}
-use Rattle.protocol.specs.Format.{upTo}
+use Rattle.protocol.specs.Format.{workersLimit, upTo}
+use Rattle.protocol.specs.Calls as calls
 use Rattle.protocol.specs.Pages.{pageSize, pageCount, Copy, absent, copied, Copies, noCopies, commit}
 
 -- a page's worth of bytes, from a place on
@@ -12,11 +13,14 @@ abbrev pub part : ℕ → List ℕ → List ℕ
 part at bytes = take pageSize (drop at bytes)
 
 -- the bytes that the caller lends
-pub record Sizes (memory work : List ℕ) : Type 0 where
-  pub memoryLength : length memory ≡ 2048
-  pub workLength : length work ≡ 32768
+pub record Lent (memory work : List ℕ) : Type 0 where
+  pub memoryLength : length memory ≡ calls.memoryLength
+  pub workLength : length work ≡ calls.workLength
 
 -- A slot is a worker's place for one page. Its working copy comes first, then the twin.
+abbrev pub slotCount : ℕ
+slotCount = workersLimit * pageCount
+
 abbrev pub slotOf : ℕ → ℕ → ℕ
 slotOf w p = pageCount * w + p
 

@@ -1,14 +1,18 @@
-// Page copies with their twins, in bytes that the caller lends. `work` holds, for each of 8 workers and each of 8 pages, a
-// working copy of 256 bytes and then its twin. A slot is a worker's place for one page, 8 × worker + page, and `copied` marks
-// the slots in use.
+// Page copies with their twins, in bytes that the caller lends. `work` holds, for each worker and each page, a working copy and
+// then its twin. A slot is a worker's place for one page, Page::COUNT × worker + page, and `copied` marks the slots in use.
+use format::limits::WORKERS_LIMIT;
+use words::high_byte;
+use words::low_byte;
+use words::word;
 ghost use mathlib.Core.Path.{_≡_};
 ghost use mathlib.Core.List.{List};
 ghost use Prim.Native.Nat.{ℕ, _+_, _*_, _<_, _≤_, _/_, _%_};
-ghost use lib.ListN.{length, drop, set, replicate};
+ghost use lib.ListN.{length, drop, set};
 ghost use lib.Seq.{paste};
-ghost use Rattle.protocol.specs.Format.{word};
+ghost use Rattle.protocol.specs.Format.{workersLimit};
+ghost use Rattle.protocol.specs.Calls.{memoryLength, addressLimit};
 ghost use Rattle.protocol.specs.Pages.{pageSize, pageCount, page, noCopies, opened, loadByte, loadWord, storeByte, storeWord, commit};
-ghost use Rattle.pages.specs.Copies.{Sizes, slotCopy, copiesIn, anyCopied, SlotHolds, WorkerHolds, Committed};
+ghost use Rattle.pages.specs.Copies.{Lent, slotCount, slotCopy, copiesIn, anyCopied, SlotHolds, WorkerHolds, Committed};
 
 pub struct Page;
 
@@ -20,16 +24,11 @@ impl Page {
     pub const PAIR: usize = 2 * Page::SIZE;
 }
 
-// Sets every byte to 0.
-pub fn clear(bytes: &mut [u8])
-    ensures { λ _. ⌜ now (bytes .exit) ≡ replicate (length (now (bytes .entry))) 0 ⌝ }
-{
-    let mut i = 0;
-    while i < bytes.len() {
-        bytes[i] = 0;
-        i += 1;
-    }
-}
+pub const SLOTS: usize = WORKERS_LIMIT * Page::COUNT;
+
+pub const MEMORY_LENGTH: usize = Page::COUNT * Page::SIZE;
+
+pub const WORK_LENGTH: usize = SLOTS * Page::PAIR;
 
 // Copies a page's worth of bytes.
 fn copy_page(from: &[u8], start: usize, into: &mut [u8], at: usize)
@@ -43,27 +42,9 @@ fn copy_page(from: &[u8], start: usize, into: &mut [u8], at: usize)
     }
 }
 
-fn word_of(low: u8, high: u8) -> u16
-    ensures { λ r. ⌜ r ≡ word low high ⌝ }
-{
-    low as u16 + 256 * high as u16
-}
-
-fn low_byte(number: u16) -> u8
-    ensures { λ r. ⌜ r ≡ number % 256 ⌝ }
-{
-    (number % 256) as u8
-}
-
-fn high_byte(number: u16) -> u8
-    ensures { λ r. ⌜ r ≡ number / 256 ⌝ }
-{
-    (number / 256) as u8
-}
-
 // Both bytes are read before the choice: no branch waits for the mark.
-fn load_byte(memory: &[u8], work: &[u8], copied: &[bool; 64], w: usize, address: usize) -> u8
-    requires { ⌜ Sizes (now memory) (now work) × (w < 8) × (address < 2048) ⌝ }
+fn load_byte(memory: &[u8], work: &[u8], copied: &[bool; SLOTS], w: usize, address: usize) -> u8
+    requires { ⌜ Lent (now memory) (now work) × (w < workersLimit) × (address < memoryLength) ⌝ }
     ensures { λ r. ⌜ r ≡ loadByte (now (memory .entry)) (copiesIn (now (copied .entry)) (now (work .entry)) w) address ⌝ }
 {
     let slot = Page::COUNT * w + address / Page::SIZE;
@@ -73,20 +54,21 @@ fn load_byte(memory: &[u8], work: &[u8], copied: &[bool; 64], w: usize, address:
 }
 
 // A worker's load of two bytes.
-pub fn load(memory: &[u8], work: &[u8], copied: &[bool; 64], w: usize, address: usize) -> u16
-    requires { ⌜ Sizes (now memory) (now work) × (w < 8) × (address ≤ 2046) ⌝ }
+pub fn load(memory: &[u8], work: &[u8], copied: &[bool; SLOTS], w: usize, address: usize) -> u16
+    requires { ⌜ Lent (now memory) (now work) × (w < workersLimit) × (address ≤ addressLimit) ⌝ }
     ensures { λ r. ⌜ r ≡ loadWord (now (memory .entry)) (copiesIn (now (copied .entry)) (now (work .entry)) w) address ⌝ }
 {
-    word_of(
+    word(
         load_byte(memory, work, copied, w, address),
         load_byte(memory, work, copied, w, address + 1),
     )
 }
 
 // Copies a page into its slot twice, unless the slot is in use.
-fn open_page(memory: &[u8], work: &mut [u8], copied: &mut [bool; 64], p: usize, slot: usize)
-    requires { ⌜ Sizes (now memory) (now work) × (length (now copied) ≡ 64) × (p < pageCount) × (slot < 64) ⌝ }
-    ensures { λ _. ⌜ SlotHolds slot (opened (page (now (memory .entry)) p) (slotCopy (now (copied .entry)) (now (work .entry)) slot)) (now (copied .entry)) (now (work .entry)) (now (copied .exit)) (now (work .exit)) ⌝ }
+fn open_page(memory: &[u8], work: &mut [u8], copied: &mut [bool; SLOTS], p: usize, slot: usize)
+    requires { ⌜ Lent (now memory) (now work) × (length (now copied) ≡ slotCount) × (p < pageCount) × (slot < slotCount) ⌝ }
+    ensures { λ _. ⌜ SlotHolds slot (opened (page (now (memory .entry)) p) (slotCopy (now (copied .entry)) (now (work .entry)) slot))
+        (now (copied .entry)) (now (work .entry)) (now (copied .exit)) (now (work .exit)) ⌝ }
 {
     if copied[slot] {
         return;
@@ -100,13 +82,14 @@ fn open_page(memory: &[u8], work: &mut [u8], copied: &mut [bool; 64], p: usize, 
 fn store_byte(
     memory: &[u8],
     work: &mut [u8],
-    copied: &mut [bool; 64],
+    copied: &mut [bool; SLOTS],
     w: usize,
     address: usize,
     byte: u8,
 )
-    requires { ⌜ Sizes (now memory) (now work) × (length (now copied) ≡ 64) × (w < 8) × (address < 2048) ⌝ }
-    ensures { λ _. ⌜ WorkerHolds w (storeByte (now (memory .entry)) (copiesIn (now (copied .entry)) (now (work .entry)) w) address byte) (now (copied .entry)) (now (work .entry)) (now (copied .exit)) (now (work .exit)) ⌝ }
+    requires { ⌜ Lent (now memory) (now work) × (length (now copied) ≡ slotCount) × (w < workersLimit) × (address < memoryLength) ⌝ }
+    ensures { λ _. ⌜ WorkerHolds w (storeByte (now (memory .entry)) (copiesIn (now (copied .entry)) (now (work .entry)) w) address byte)
+        (now (copied .entry)) (now (work .entry)) (now (copied .exit)) (now (work .exit)) ⌝ }
 {
     let p = address / Page::SIZE;
     let slot = Page::COUNT * w + p;
@@ -118,13 +101,14 @@ fn store_byte(
 pub fn store(
     memory: &[u8],
     work: &mut [u8],
-    copied: &mut [bool; 64],
+    copied: &mut [bool; SLOTS],
     w: usize,
     address: usize,
     number: u16,
 )
-    requires { ⌜ Sizes (now memory) (now work) × (length (now copied) ≡ 64) × (w < 8) × (address ≤ 2046) ⌝ }
-    ensures { λ _. ⌜ WorkerHolds w (storeWord (now (memory .entry)) (copiesIn (now (copied .entry)) (now (work .entry)) w) address number) (now (copied .entry)) (now (work .entry)) (now (copied .exit)) (now (work .exit)) ⌝ }
+    requires { ⌜ Lent (now memory) (now work) × (length (now copied) ≡ slotCount) × (w < workersLimit) × (address ≤ addressLimit) ⌝ }
+    ensures { λ _. ⌜ WorkerHolds w (storeWord (now (memory .entry)) (copiesIn (now (copied .entry)) (now (work .entry)) w) address number)
+        (now (copied .entry)) (now (work .entry)) (now (copied .exit)) (now (work .exit)) ⌝ }
 {
     store_byte(memory, work, copied, w, address, low_byte(number));
     store_byte(memory, work, copied, w, address + 1, high_byte(number));
@@ -132,8 +116,8 @@ pub fn store(
 
 // Writes the bytes of a page's working copy that differ from its twin, unless the slot is unused. Each byte is written, changed
 // or not, so that the loop becomes vector code.
-fn commit_page(memory: &mut [u8], work: &[u8], copied: &[bool; 64], p: usize, slot: usize)
-    requires { ⌜ Sizes (now memory) (now work) × (p < pageCount) × (slot < 64) ⌝ }
+fn commit_page(memory: &mut [u8], work: &[u8], copied: &[bool; SLOTS], p: usize, slot: usize)
+    requires { ⌜ Lent (now memory) (now work) × (p < pageCount) × (slot < slotCount) ⌝ }
     ensures { λ _. ⌜ now (memory .exit) ≡ commit (set noCopies p (slotCopy (now (copied .entry)) (now (work .entry)) slot)) (now (memory .entry)) ⌝ }
 {
     if !copied[slot] {
@@ -151,8 +135,8 @@ fn commit_page(memory: &mut [u8], work: &[u8], copied: &[bool; 64], p: usize, sl
     }
 }
 
-fn commit_pages(memory: &mut [u8], work: &[u8], copied: &[bool; 64], w: usize)
-    requires { ⌜ Sizes (now memory) (now work) × (w < 8) ⌝ }
+fn commit_pages(memory: &mut [u8], work: &[u8], copied: &[bool; SLOTS], w: usize)
+    requires { ⌜ Lent (now memory) (now work) × (w < workersLimit) ⌝ }
     ensures { λ _. ⌜ now (memory .exit) ≡ commit (copiesIn (now (copied .entry)) (now (work .entry)) w) (now (memory .entry)) ⌝ }
 {
     let mut p = 0;
@@ -163,8 +147,8 @@ fn commit_pages(memory: &mut [u8], work: &[u8], copied: &[bool; 64], w: usize)
 }
 
 // A worker's copies are dropped.
-pub fn discard(copied: &mut [bool; 64], w: usize)
-    requires { ⌜ w < 8 ⌝ }
+pub fn discard(copied: &mut [bool; SLOTS], w: usize)
+    requires { ⌜ w < workersLimit ⌝ }
     ensures { λ _. ⌜ ((work : List ℕ) → WorkerHolds w noCopies (now (copied .entry)) work (now (copied .exit)) work) ⌝ }
 {
     let mut p = 0;
@@ -175,8 +159,8 @@ pub fn discard(copied: &mut [bool; 64], w: usize)
 }
 
 // Whether a worker has a copy of any page. Each mark is read, so that all are read at once.
-fn any_copy(copied: &[bool; 64], w: usize) -> bool
-    requires { ⌜ w < 8 ⌝ }
+fn any_copy(copied: &[bool; SLOTS], w: usize) -> bool
+    requires { ⌜ w < workersLimit ⌝ }
     ensures { λ r. ⌜ r ≡ anyCopied (now (copied .entry)) w pageCount ⌝ }
 {
     let mut any = false;
@@ -189,8 +173,8 @@ fn any_copy(copied: &[bool; 64], w: usize) -> bool
 }
 
 // A worker's commit: shared memory gets what it changed, and its copies are dropped.
-pub fn commit(memory: &mut [u8], work: &[u8], copied: &mut [bool; 64], w: usize)
-    requires { ⌜ Sizes (now memory) (now work) × (w < 8) ⌝ }
+pub fn commit(memory: &mut [u8], work: &[u8], copied: &mut [bool; SLOTS], w: usize)
+    requires { ⌜ Lent (now memory) (now work) × (w < workersLimit) ⌝ }
     ensures { λ _. ⌜ Committed w (now (copied .entry)) (now (work .entry)) (now (memory .entry)) (now (copied .exit)) (now (memory .exit)) ⌝ }
 {
     if !any_copy(copied, w) {

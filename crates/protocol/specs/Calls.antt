@@ -14,6 +14,10 @@ use Rattle.protocol.specs.Report.{logBytes, reportBytes}
 abbrev pub memoryLength : ℕ
 memoryLength = 2048
 
+-- the greatest address of a load or a store, which take two bytes
+abbrev pub addressLimit : ℕ
+addressLimit = memoryLength - 2
+
 abbrev pub logLength : ℕ
 logLength = 8256
 
@@ -41,13 +45,13 @@ pub record Outcome : Type 0 where
 abbrev pub checkCode : List ℕ → ℕ
 checkCode file = codeOf (check file)
 
--- "11, a lent buffer of another length"
+-- "11, a lent buffer of another length": by the lengths of memory, log, report and work
+abbrev pub misfitBy : ℕ → ℕ → ℕ → ℕ → Bool
+misfitBy memory log report work =
+    not (eqb memory memoryLength) || not (eqb log logLength) || not (eqb report reportLength) || not (eqb work workLength)
+
 abbrev pub misfit : Buffers → Bool
-misfit b =
-    not (eqb (length (b .memory)) memoryLength)
-    || not (eqb (length (b .log)) logLength)
-    || not (eqb (length (b .report)) reportLength)
-    || not (eqb (length (b .work)) workLength)
+misfit b = misfitBy (length (b .memory)) (length (b .log)) (length (b .report)) (length (b .work))
 
 -- "13, a turn naming a worker not below n"
 unfoldable pub namesNobody : ℕ → List ℕ → Bool
@@ -58,13 +62,15 @@ abbrev pub both : Verdict → Verdict → Verdict
 both accepted next = next
 both (refused f i) next = refused f i
 
--- "A run tests 11, 12, then the file, then 13."
+-- "A run tests 11, 12, then the file, then 13.": the verdict by the four tests
+abbrev pub verdictBy : Bool → Bool → Verdict → Bool → Verdict
+verdictBy buffers many file stray =
+    ruled (refuseIf buffers badBuffer holds) 0
+    (ruled (refuseIf many tooManyTurns holds) 0 (both file (ruled (refuseIf stray badTurn holds) 0 accepted)))
+
 unfoldable pub runVerdict : List ℕ → List ℕ → Buffers → Verdict
 runVerdict file turns b =
-    ruled (refuseIf (misfit b) badBuffer holds) 0
-    (ruled (refuseIf (ltb turnsLimit (length turns)) tooManyTurns holds) 0
-    (both (check file)
-    (ruled (refuseIf (namesNobody (workersOf (planOf file)) turns) badTurn holds) 0 accepted)))
+    verdictBy (misfit b) (ltb turnsLimit (length turns)) (check file) (namesNobody (workersOf (planOf file)) turns)
 
 -- "After an accepted run memory is the shared memory, the log's rest is zero, work is all zero."
 unfoldable pub lentLog : State → List ℕ

@@ -12,7 +12,8 @@ use Rattle.protocol.specs.Format.{Record, rowIn, rowOf, stepOf, sync, exit}
 use Rattle.protocol.specs.Steps.{Queue, onCondition, atBarrier, Fate, going, exited, failed, waiting}
 use Rattle.protocol.specs.Rounds.{waitsOn, isWaiting, opOf, operandOf}
 use Rattle.protocol.proofs.Each.{each}
-use Rattle.rules.specs.Codes.{fateCode, fateOf, syncOf, onConditionCode}
+use Rattle.format.specs.Fates.{codeOnCondition}
+use Rattle.rules.specs.Codes.{fateCode, fateOf, syncOf}
 
 pub fate-code : (f : Fate) → fateOf (fateCode f) ≡ f
 unfolding fateOf
@@ -21,13 +22,13 @@ fate-code exited = refl
 fate-code failed = refl
 fate-code (waiting (onCondition c)) =
     let half : (4 + 2 * c - 4) / 2 ≡ c = omega arith in
-    rw (le-ltb (4 + 2 * c) onConditionCode (omega arith), eq-eqb ((4 + 2 * c) % 2) 0 (omega arith), half)
+    rw (le-ltb (4 + 2 * c) codeOnCondition (omega arith), eq-eqb ((4 + 2 * c) % 2) 0 (omega arith), half)
 fate-code (waiting (atBarrier b)) =
     let half : (5 + 2 * b - 5) / 2 ≡ b = omega arith in
-    rw (le-ltb (5 + 2 * b) onConditionCode (omega arith), ne-eqb ((5 + 2 * b) % 2) 0 (λ e. omega arith), half)
+    rw (le-ltb (5 + 2 * b) codeOnCondition (omega arith), ne-eqb ((5 + 2 * b) % 2) 0 (λ e. omega arith), half)
 
 -- who waits, by the code
-not-waiting : (k : ℕ) → k < onConditionCode → (q : Queue) → eqb k (fateCode (waiting q)) ≡ false
+not-waiting : (k : ℕ) → k < codeOnCondition → (q : Queue) → eqb k (fateCode (waiting q)) ≡ false
 not-waiting k h (onCondition c) = ne-eqb k (4 + 2 * c) (λ e. omega arith)
 not-waiting k h (atBarrier b) = ne-eqb k (5 + 2 * b) (λ e. omega arith)
 
@@ -45,9 +46,9 @@ code-same (waiting (atBarrier d)) (onCondition c) = ne-eqb (5 + 2 * d) (4 + 2 * 
 code-same (waiting (atBarrier d)) (atBarrier c) = twice 5 c d (eqb c d) refl
 
 -- the tests of the code
-pub code-waits : (k : ℕ) → isWaiting (fateOf k) ≡ not (ltb k onConditionCode)
+pub code-waits : (k : ℕ) → isWaiting (fateOf k) ≡ not (ltb k codeOnCondition)
 unfolding fateOf
-code-waits k = go (ltb k onConditionCode) (eqb k 0) (eqb k 1) _
+code-waits k = go (ltb k codeOnCondition) (eqb k 0) (eqb k 1) _
   where
     go : (small zero one : Bool) (q : Queue) → isWaiting (cond small (cond zero going (cond one exited failed)) (waiting q)) ≡ not small
     go true true one q = refl

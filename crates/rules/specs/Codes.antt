@@ -6,25 +6,19 @@ use Rattle.protocol.specs.Ops.{opLock, opUnlock, opWait, opSignal, opBroadcast,
 use Rattle.protocol.specs.Format.{Sync, lock, unlock, wait, signal, broadcast, barrier, exit}
 use Rattle.protocol.specs.Steps.{onCondition, atBarrier, Fate, going, exited, failed, waiting}
 use Rattle.protocol.specs.Rounds as rounds
+use Rattle.format.specs.Fates.{codeOnCondition, codeAtBarrier}
 use Rattle.rules.specs.declared.ruling.Uncommitted.{Uncommitted}
 use Rattle.rules.specs.declared.ruling.Uncommitted.the-variants.{Kept, Committed, Lost}
 use Rattle.rules.specs.declared.ruling.Goes.{Goes}
 use Rattle.rules.specs.declared.ruling.Goes.the-variants.{Keeps, Gives, Leaves}
-
--- the code of a worker that waits is one of these and twice the number of what it waits on
-abbrev pub onConditionCode : ℕ
-onConditionCode = 4
-
-abbrev pub atBarrierCode : ℕ
-atBarrierCode = 5
 
 -- a fate as one number
 abbrev pub fateCode : Fate → ℕ
 fateCode going = 0
 fateCode exited = 1
 fateCode failed = 2
-fateCode (waiting (onCondition c)) = onConditionCode + 2 * c
-fateCode (waiting (atBarrier b)) = atBarrierCode + 2 * b
+fateCode (waiting (onCondition c)) = codeOnCondition + 2 * c
+fateCode (waiting (atBarrier b)) = codeAtBarrier + 2 * b
 
 -- the codes of one who waits on a condition, and of one who waits at a barrier
 abbrev pub conditionCode : ℕ → ℕ
@@ -35,8 +29,8 @@ barrierCode b = fateCode (waiting (atBarrier b))
 
 unfoldable pub fateOf : ℕ → Fate
 fateOf k =
-    cond (ltb k onConditionCode) (cond (eqb k 0) going (cond (eqb k 1) exited failed))
-    (waiting (cond (eqb (k % 2) 0) (onCondition ((k - onConditionCode) / 2)) (atBarrier ((k - atBarrierCode) / 2))))
+    cond (ltb k codeOnCondition) (cond (eqb k 0) going (cond (eqb k 1) exited failed))
+    (waiting (cond (eqb (k % 2) 0) (onCondition ((k - codeOnCondition) / 2)) (atBarrier ((k - codeAtBarrier) / 2))))
 
 abbrev pub uncommittedOf : Uncommitted → rounds.Uncommitted
 uncommittedOf Kept = rounds.kept

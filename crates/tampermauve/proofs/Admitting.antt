@@ -12,8 +12,8 @@ use borrow.Author.Tests.{leb-true, leb-false, le-leb, lt-leb, eq-eqb}
 use Rattle.protocol.specs.Format.{planOf, records}
 use Rattle.protocol.specs.Refusals.{Refusal, numberOf, Verdict, accepted, refused, codeOf, check}
 use Rattle.protocol.specs.Turns.{workersOf}
-use Rattle.protocol.specs.Calls.{both, namesNobody, turnsLimit}
-use Rattle.protocol.proofs.Bools.{or-false}
+use Rattle.protocol.specs.Calls.{memoryLength, logLength, reportLength, workLength, turnsLimit, both, namesNobody, verdictBy}
+use Rattle.protocol.proofs.Bools.{split, or-false}
 use Rattle.protocol.proofs.Accepted.{accepted-file, workers-of}
 use Rattle.protocol.proofs.FirstDue.{AsLent, as-lent}
 use Rattle.protocol.proofs.Numbered.{numbered}
@@ -21,22 +21,20 @@ use Rattle.plan.specs.Answer.{verdictOf}
 use Rattle.plan.specs.Checking.{LaidOut, CheckedAs}
 use Rattle.plan.specs.declared.check.Checked.{Checked}
 use Rattle.plan.specs.declared.check.Layout.{Layout}
-use Rattle.tampermauve.specs.Run.{misfitBy, verdictBy, Admits}
+use Rattle.tampermauve.specs.Run.{unfit, decided, Admits}
 use Rattle.tampermauve.specs.declared.admit.Lengths.{Lengths}
 use Rattle.tampermauve.specs.declared.admit.Admitted.{Admitted}
 
 -- the lengths of the lent buffers: where they are not all right, one is wrong
 
-pub wrong : (l : Lengths) → (AsLent (l .memory) (l .log) (l .report) (l .work) → ⊥) → true ≡ misfitBy l
-wrong l h = go (misfitBy l) refl
-  where
-    go : (b : Bool) → misfitBy l ≡ b → true ≡ misfitBy l
-    go true e = sym e
-    go false e = absurd (h (as-lent (l .memory) (l .log) (l .report) (l .work) e))
+pub wrong : (l : Lengths) → (AsLent (l .memory) (l .log) (l .report) (l .work) → ⊥) → true ≡ unfit l
+wrong l h = split (unfit l) sym (λ e. absurd (h (as-lent (l .memory) (l .log) (l .report) (l .work) e)))
 
 -- where three are right, the last decides
-pub last-test : (l : Lengths) → l .memory ≡ 2048 → l .log ≡ 8256 → l .report ≡ 16 → not (eqb (l .work) 32768) ≡ misfitBy l
-last-test l m g r = sym (simp (eq-eqb (l .memory) 2048 m, eq-eqb (l .log) 8256 g, eq-eqb (l .report) 16 r))
+pub last-test : (l : Lengths) → l .memory ≡ memoryLength → l .log ≡ logLength → l .report ≡ reportLength
+    → not (eqb (l .work) workLength) ≡ unfit l
+last-test l m g r =
+    sym (simp (eq-eqb (l .memory) memoryLength m, eq-eqb (l .log) logLength g, eq-eqb (l .report) reportLength r))
 
 -- turns, one at a time: the greatest of those seen, then what is left
 
@@ -82,19 +80,13 @@ first-refused accepted next h = absurd (h refl)
 first-refused (refused f i) next h = refl
 
 module _ (file turns : List ℕ) (l : Lengths) where
-  abbrev pub decided : ℕ
-  decided = codeOf (verdictBy (misfitBy l) (ltb turnsLimit (length turns)) (check file) (namesNobody (workersOf (planOf file)) turns))
-
   -- the answer by what the tests gave
-  pub tests : (m t s : Bool) (v : Verdict) → misfitBy l ≡ m → ltb turnsLimit (length turns) ≡ t → check file ≡ v → namesNobody (workersOf (planOf file)) turns ≡ s
-      → codeOf (verdictBy m t v s) ≡ decided
+  pub tests : (m t s : Bool) (v : Verdict) → unfit l ≡ m → ltb turnsLimit (length turns) ≡ t → check file ≡ v → namesNobody (workersOf (planOf file)) turns ≡ s
+      → codeOf (verdictBy m t v s) ≡ decided file turns (unfit l)
   tests m t s v em et ev es =
-      ap (λ (b : Bool). codeOf (verdictBy m t v b)) (sym es)
-      ∙ (ap (λ (u : Verdict). codeOf (verdictBy m t u (namesNobody (workersOf (planOf file)) turns))) (sym ev)
-      ∙ (ap (λ (b : Bool). codeOf (verdictBy m b (check file) (namesNobody (workersOf (planOf file)) turns))) (sym et)
-      ∙ ap (λ (b : Bool). codeOf (verdictBy b (ltb turnsLimit (length turns)) (check file) (namesNobody (workersOf (planOf file)) turns))) (sym em)))
+      rw (em, et, ev, es)
 
-  pub refuses : (a : Admitted) (f : Refusal) → a .code ≡ numberOf f → numberOf f ≡ decided → Admits file turns l a
+  pub refuses : (a : Admitted) (f : Refusal) → a .code ≡ numberOf f → numberOf f ≡ decided file turns (unfit l) → Admits file turns l a
   refuses a f e d = record { code = e ∙ d; layout = λ z. absurd (omega (arith, e, z, numbered f .0)) }
 
 -- the file is accepted where the code is 0, and the layout's number of workers is its plan's

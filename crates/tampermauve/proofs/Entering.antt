@@ -1,6 +1,6 @@
 -- What an admitted run goes in with.
 use Prim.Native.Nat.{ℕ}
-use mathlib.Core.Path.{_≡_, sym, ap, _∙_}
+use mathlib.Core.Path.{_≡_, sym, _∙_}
 use mathlib.Core.List.{List}
 use borrow.Author.Tests.{ltb-false}
 use lib.Dec.{ltb}
@@ -11,17 +11,17 @@ use Rattle.protocol.specs.Turns.{workersOf}
 use Rattle.protocol.specs.Calls.{Buffers, misfit, turnsLimit, namesNobody}
 use Rattle.protocol.specs.WellFormed.{Fitting}
 use Rattle.protocol.proofs.FirstDue.{fitting}
-use Rattle.engine.specs.Moving.{Playing}
-use Rattle.tampermauve.specs.Run.{lengthsOf, Admits}
+use Rattle.engine.specs.Turning.{Playing}
+use Rattle.tampermauve.specs.Run.{lengthsOf, decided, Admits}
 use Rattle.tampermauve.specs.declared.admit.Admitted.{Admitted}
 use Rattle.tampermauve.proofs.Admitting.{plan-workers}
-use Rattle.tampermauve.proofs.Ran.{Passed, decided, passed}
+use Rattle.tampermauve.proofs.Ran.{Cleared, passed}
 
 module _ (file turns : List ℕ) (b : Buffers) (a : Admitted) (h : Admits file turns (lengthsOf b) a) (z : a .code ≡ 0) where
-  pub none-refused : 0 ≡ decided file turns b
+  pub none-refused : 0 ≡ decided file turns (misfit b)
   none-refused = sym z ∙ h .code
 
-  tested : Passed (misfit b) (ltb turnsLimit (length turns)) (check file) (namesNobody (workersOf (planOf file)) turns)
+  tested : Cleared (misfit b) (ltb turnsLimit (length turns)) (check file) (namesNobody (workersOf (planOf file)) turns)
   tested = passed file turns b (sym none-refused)
 
   pub fits : Fitting b
@@ -36,10 +36,13 @@ module _ (file turns : List ℕ) (b : Buffers) (a : Admitted) (h : Admits file t
   pub playing : Playing file (a .layout .workers) (a .layout .sizes) (a .layout .firsts) turns (b .memory) (b .log) (b .work)
   playing =
       record {
-        laid = record { ok = ok; sizesRight = h .layout z .sizes; firstsRight = h .layout z .firsts };
+        named =
+            record {
+              laid = record { ok = ok; sizesRight = h .layout z .sizes; firstsRight = h .layout z .firsts };
+              known = tested .known;
+              short = ltb-false turnsLimit (length turns) (tested .short);
+            };
         workers = workers-right;
-        known = ap (λ (n : ℕ). namesNobody n turns) workers-right ∙ tested .known;
-        short = ltb-false turnsLimit (length turns) (tested .short);
         bytes = record { memoryLength = fits .memory; workLength = fits .work };
         room = fits .log;
       }

@@ -8,8 +8,8 @@ use Rattle.protocol.specs.Format.{planOf}
 use Rattle.protocol.specs.Refusals.{accepted, check}
 use Rattle.protocol.specs.Rounds.{Entry, State}
 use Rattle.protocol.specs.Turns.{workersOf, start}
-use Rattle.protocol.specs.Report.{logBytes, reportBytes}
-use Rattle.protocol.specs.Calls.{buffersOf, lentLog, playedFrom}
+use Rattle.protocol.specs.Report.{entryLength, logBytes, reportBytes}
+use Rattle.protocol.specs.Calls.{logLength, reportLength, workLength, buffersOf, lentLog, playedFrom}
 use Rattle.protocol.proofs.Sound.{Sound}
 use Rattle.protocol.proofs.Accepted.{sound-file}
 use Rattle.protocol.proofs.Invariant.{Inv}
@@ -17,20 +17,16 @@ use Rattle.protocol.proofs.Laws.{start-inv}
 use Rattle.protocol.proofs.Bounds.{Bounded, bounded, play-inv}
 use Rattle.queue.specs.List.{listOf}
 use Rattle.journal.specs.Bytes.{reportOf}
-use Rattle.engine.specs.Moving.{Over}
+use Rattle.engine.specs.Turning.{Over}
 use Rattle.engine.specs.declared.state.Played.{Played}
-use Rattle.ending.specs.Ending.{endBy, Ends, Left}
-use Rattle.journal.specs.declared.report.Counts.{Counts}
+use Rattle.ending.specs.Ending.{endBy, Closing, Closed}
 use Rattle.tampermauve.specs.Run.{lent}
 use Rattle.tampermauve.proofs.Reported.{report-same}
 
-length-log : (es : List Entry) → length (logBytes es) ≡ 8 * length es
+length-log : (es : List Entry) → length (logBytes es) ≡ entryLength * length es
 unfolding logBytes
 length-log [] = refl
 length-log (e ∷ es) = let h = length-log es in omega arith
-
-abbrev pub countsOf : Played → Counts
-countsOf p = record { moves = p .tally .moves; rounds = p .tally .rounds; records = p .tally .records }
 
 module _ (file turns start-memory : List ℕ) (ok : check file ≡ accepted) (p : Played) (n : ℕ) (right : n ≡ workersOf (planOf file))
     {memory log work : List ℕ} (o : Over file turns start-memory p memory log work) where
@@ -46,48 +42,51 @@ module _ (file turns start-memory : List ℕ) (ok : check file ≡ accepted) (p 
   fits : Bounded (planOf file) (playedFrom (planOf file) start-memory turns)
   fits = bounded (planOf file) _ sound inv
 
-  pub ends : {report : List ℕ} → length report ≡ 16 → Ends (countsOf p) n log report
-  ends size =
-      let s = o .shows in
+  pub closing : {report : List ℕ} → length report ≡ reportLength → Closing (p .schedule .counts) n log report
+  closing size =
+      let s = o .refines in
       record {
         workers = omega (arith, right, sound .workers);
-        moves = omega (arith, s .moves, fits .movesFit);
-        rounds = omega (arith, s .rounds, fits .movesFit, fits .rounds);
-        records = omega (arith, s .logged .count, fits .recordsFit);
-        room = omega (arith, s .logged .count, s .logged .size, fits .recordsFit);
+        counts =
+            record {
+              moves = omega (arith, s .moves, fits .movesFit);
+              rounds = omega (arith, s .rounds, fits .movesFit, fits .rounds);
+              records = omega (arith, s .log .count, fits .recordsFit);
+            };
+        room = omega (arith, s .log .count, s .log .size, fits .recordsFit);
         size = size;
       }
 
-  module _ {log′ report′ work′ : List ℕ} (left : Left (listOf (p .tally .lists .list)) (countsOf p) (p .fates) n log log′ report′ work work′) where
+  module _ {log′ report′ work′ : List ℕ} (left : Closed (listOf (p .schedule .lists .list)) (p .schedule .counts) (p .fates) n log log′ report′ work work′) where
     log-same : log′ ≡ lentLog (playedFrom (planOf file) start-memory turns)
     unfolding lentLog
     log-same =
         left .logged
-        ∙ (ap (λ (bytes : List ℕ). bytes ++ replicate (length log - 8 * p .tally .records) 0) (o .shows .logged .bytes)
+        ∙ (ap (λ (bytes : List ℕ). bytes ++ replicate (length log - entryLength * p .schedule .counts .records) 0) (o .refines .log .bytes)
         ∙ ap (λ (k : ℕ). logBytes (state .log) ++ replicate k 0) rest)
       where
-        rest : length log - 8 * p .tally .records ≡ 8256 - length (logBytes (state .log))
-        rest = omega (arith, o .shows .logged .size, o .shows .logged .count, length-log (state .log))
+        rest : length log - entryLength * p .schedule .counts .records ≡ logLength - length (logBytes (state .log))
+        rest = omega (arith, o .refines .log .size, o .refines .log .count, length-log (state .log))
 
     report-left : report′ ≡ reportBytes (playedFrom (planOf file) start-memory turns)
     report-left =
         left .reported
-        ∙ (ap (λ (ws : List ℕ). said ws (p .tally .moves) (p .tally .rounds) (p .tally .records)) (o .shows .lined .list .list)
-        ∙ (ap (λ (k : ℕ). said (state .list) k (p .tally .rounds) (p .tally .records)) (sym (o .shows .moves))
-        ∙ (ap (λ (k : ℕ). said (state .list) (state .moves) k (p .tally .records)) (sym (o .shows .rounds))
-        ∙ (ap (λ (k : ℕ). said (state .list) (state .moves) (state .rounds) k) (sym (o .shows .logged .count))
-        ∙ report-same state n (p .fates) (inv .core .size ∙ sym right) (λ w h. o .shows .lined .fates w (omega (arith, right, h)))))))
+        ∙ (ap (λ (ws : List ℕ). said ws (p .schedule .counts .moves) (p .schedule .counts .rounds) (p .schedule .counts .records)) (o .refines .lists .list .list)
+        ∙ (ap (λ (k : ℕ). said (state .list) k (p .schedule .counts .rounds) (p .schedule .counts .records)) (sym (o .refines .moves))
+        ∙ (ap (λ (k : ℕ). said (state .list) (state .moves) k (p .schedule .counts .records)) (sym (o .refines .rounds))
+        ∙ (ap (λ (k : ℕ). said (state .list) (state .moves) (state .rounds) k) (sym (o .refines .log .count))
+        ∙ report-same state n (p .fates) (inv .core .size ∙ sym right) (λ w h. o .refines .lists .fates w (omega (arith, right, h)))))))
       where
         said : List ℕ → ℕ → ℕ → ℕ → List ℕ
         said ws moves rounds records =
-            reportOf (record { end = endBy ws (p .fates) n; workers = n; moves = moves; rounds = rounds; records = records }) (p .fates)
+            reportOf (endBy ws (p .fates) n) n (record { moves = moves; rounds = rounds; records = records }) (p .fates)
 
-    work-same : work′ ≡ replicate 32768 0
-    work-same = left .cleared ∙ ap (λ (k : ℕ). replicate k 0) (o .shows .bytes .sizes .workLength)
+    work-same : work′ ≡ replicate workLength 0
+    work-same = left .cleared ∙ ap (λ (k : ℕ). replicate k 0) (o .refines .bytes .sizes .workLength)
 
     pub left-same : lent memory log′ report′ work′ ≡ buffersOf (playedFrom (planOf file) start-memory turns)
     left-same =
-        ap (λ (bytes : List ℕ). lent bytes log′ report′ work′) (sym (o .shows .bytes .shared))
+        ap (λ (bytes : List ℕ). lent bytes log′ report′ work′) (sym (o .refines .bytes .shared))
         ∙ (ap (λ (bytes : List ℕ). lent (state .memory) bytes report′ work′) log-same
         ∙ (ap (λ (bytes : List ℕ). lent (state .memory) (lentLog state) bytes work′) report-left
         ∙ ap (λ (bytes : List ℕ). lent (state .memory) (lentLog state) (reportBytes state) bytes) work-same))

@@ -1,14 +1,14 @@
 -- What a run is admitted by, and what the call ensures.
 use Prim.Native.Nat.{ℕ}
-use mathlib.Core.Bool.{Bool, not, _||_}
+use mathlib.Core.Bool.{Bool}
 use mathlib.Core.Path.{_≡_}
 use mathlib.Core.List.{List}
-use lib.Dec.{ltb, eqb}
+use lib.Dec.{ltb}
 use lib.ListN.{length}
 use Rattle.protocol.specs.Format.{planOf}
-use Rattle.protocol.specs.Refusals.{Verdict, accepted, codeOf, badBuffer, tooManyTurns, badTurn, holds, refuseIf, ruled, check}
+use Rattle.protocol.specs.Refusals.{codeOf, check}
 use Rattle.protocol.specs.Turns.{workersOf}
-use Rattle.protocol.specs.Calls.{Buffers, Outcome, both, namesNobody, run, turnsLimit, memoryLength, logLength, reportLength, workLength}
+use Rattle.protocol.specs.Calls.{Buffers, Outcome, turnsLimit, misfitBy, namesNobody, verdictBy, run}
 use Rattle.protocol.specs.Demands.{Demand3Bytes}
 use Rattle.plan.specs.Checking.{LaidOut}
 use Rattle.tampermauve.specs.declared.admit.Lengths.{Lengths}
@@ -20,24 +20,16 @@ lent memory log report work = record { memory = memory; log = log; report = repo
 abbrev pub lengthsOf : Buffers → Lengths
 lengthsOf b = record { memory = length (b .memory); log = length (b .log); report = length (b .report); work = length (b .work) }
 
-abbrev pub misfitBy : Lengths → Bool
-misfitBy l =
-    not (eqb (l .memory) memoryLength)
-    || not (eqb (l .log) logLength)
-    || not (eqb (l .report) reportLength)
-    || not (eqb (l .work) workLength)
+abbrev pub unfit : Lengths → Bool
+unfit l = misfitBy (l .memory) (l .log) (l .report) (l .work)
 
--- the verdict on a run, by its four tests
-abbrev pub verdictBy : Bool → Bool → Verdict → Bool → Verdict
-verdictBy buffers many file stray =
-    ruled (refuseIf buffers badBuffer holds) 0
-    (ruled (refuseIf many tooManyTurns holds) 0 (both file (ruled (refuseIf stray badTurn holds) 0 accepted)))
+-- the number for C, by whether the buffers' lengths are wrong
+abbrev pub decided : List ℕ → List ℕ → Bool → ℕ
+decided file turns buffers =
+    codeOf (verdictBy buffers (ltb turnsLimit (length turns)) (check file) (namesNobody (workersOf (planOf file)) turns))
 
 pub record Admits (file turns : List ℕ) (l : Lengths) (a : Admitted) : Type 0 where
-  pub code :
-      a .code
-      ≡ codeOf
-      (verdictBy (misfitBy l) (ltb turnsLimit (length turns)) (check file) (namesNobody (workersOf (planOf file)) turns))
+  pub code : a .code ≡ decided file turns (unfit l)
   pub layout : a .code ≡ 0 → LaidOut file (a .layout)
 
 -- what is returned and left is what the definition gives; and demand 3 of the bytes that an accepted run leaves

@@ -1,4 +1,11 @@
 // Whether a run is admitted.
+use crate::ACCEPTED;
+use format::limits::BARRIER_COUNT;
+use format::limits::WORKERS_LIMIT;
+use journal::log::LOG_LENGTH;
+use journal::report::REPORT_LENGTH;
+use pages::MEMORY_LENGTH;
+use pages::WORK_LENGTH;
 use plan::answer::Refusal;
 use plan::answer::code;
 use plan::answer::number;
@@ -8,7 +15,9 @@ ghost use mathlib.Core.Path.{_≡_};
 ghost use Rattle.protocol.specs.Calls as calls;
 ghost use Rattle.protocol.specs.Refusals.{numberOf};
 ghost use Rattle.plan.specs.Answer.{refusalOf};
-ghost use Rattle.tampermauve.specs.Run.{misfitBy, Admits};
+ghost use Rattle.tampermauve.specs.Run.{unfit, Admits};
+
+pub const TURNS_LIMIT: usize = 65535;
 
 // The lengths of the lent buffers.
 pub struct Lengths {
@@ -25,18 +34,18 @@ pub struct Admitted {
 }
 
 fn misfit(l: Lengths) -> bool
-    ensures { λ b. ⌜ b ≡ misfitBy l ⌝ }
+    ensures { λ b. ⌜ b ≡ unfit l ⌝ }
 {
-    if l.memory != 2048 {
+    if l.memory != MEMORY_LENGTH {
         return true;
     }
-    if l.log != 8256 {
+    if l.log != LOG_LENGTH {
         return true;
     }
-    if l.report != 16 {
+    if l.report != REPORT_LENGTH {
         return true;
     }
-    l.work != 32768
+    l.work != WORK_LENGTH
 }
 
 // Whether a turn names no worker below n: the greatest tells. All are looked at: a loop without an early end is several times as fast.
@@ -64,8 +73,8 @@ fn refused(f: Refusal) -> Admitted
         code: number(f),
         layout: Layout {
             workers: 0,
-            sizes: [0u8; 8],
-            firsts: [0usize; 9],
+            sizes: [0u8; BARRIER_COUNT],
+            firsts: [0usize; WORKERS_LIMIT + 1],
         },
     }
 }
@@ -75,7 +84,7 @@ pub fn admit(file: &[u8], turns: &[u8], lent: Lengths) -> Admitted
     ensures { λ a. ⌜ Admits (now (file .entry)) (now (turns .entry)) lent a ⌝ }
 {
     let unfit = misfit(lent);
-    let many = 65535 < turns.len();
+    let many = TURNS_LIMIT < turns.len();
     if unfit {
         return refused(Refusal::BadBuffer);
     }
@@ -86,11 +95,14 @@ pub fn admit(file: &[u8], turns: &[u8], lent: Lengths) -> Admitted
     let verdict = checked.verdict;
     let layout = checked.layout;
     let code = code(verdict);
-    if code != 0 {
+    if code != ACCEPTED {
         return Admitted { code, layout };
     }
     if names_nobody(turns, layout.workers) {
         return refused(Refusal::BadTurn);
     }
-    Admitted { code: 0, layout }
+    Admitted {
+        code: ACCEPTED,
+        layout,
+    }
 }

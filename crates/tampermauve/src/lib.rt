@@ -11,7 +11,10 @@ ghost use mathlib.Core.Path.{_≡_};
 ghost use Rattle.protocol.specs.Calls.{checkCode};
 ghost use Rattle.tampermauve.specs.Run.{lent, Ran};
 
-// 0 for a plan file that is accepted, else the refusal + 256 × the index of its record.
+// What a call that is not refused returns.
+pub const ACCEPTED: u32 = 0;
+
+// ACCEPTED for a plan file that is accepted, else the refusal + 256 × the index of its record.
 #[no_mangle]
 pub extern "C" fn tampermauve_check(file: &[u8]) -> u32
     ensures { λ r. ⌜ r ≡ checkCode (now (file .entry)) ⌝ }
@@ -21,7 +24,7 @@ pub extern "C" fn tampermauve_check(file: &[u8]) -> u32
     code(verdict)
 }
 
-// Plays the turns. 0 for a run that is accepted, else as tampermauve_check, with no byte changed.
+// Plays the turns. ACCEPTED for a run that is accepted, else as tampermauve_check, with no byte changed.
 #[no_mangle]
 pub extern "C" fn tampermauve_run(
     file: &[u8],
@@ -31,7 +34,9 @@ pub extern "C" fn tampermauve_run(
     report: &mut [u8],
     work: &mut [u8],
 ) -> u32
-    ensures { λ r. ⌜ Ran (now (file .entry)) (now (turns .entry)) (lent (now (memory .entry)) (now (log .entry)) (now (report .entry)) (now (work .entry))) r (lent (now (memory .exit)) (now (log .exit)) (now (report .exit)) (now (work .exit))) ⌝ }
+    ensures { λ r. ⌜ Ran (now (file .entry)) (now (turns .entry))
+        (lent (now (memory .entry)) (now (log .entry)) (now (report .entry)) (now (work .entry))) r
+        (lent (now (memory .exit)) (now (log .exit)) (now (report .exit)) (now (work .exit))) ⌝ }
 {
     let lengths = Lengths {
         memory: memory.len(),
@@ -40,7 +45,7 @@ pub extern "C" fn tampermauve_run(
         work: work.len(),
     };
     let admitted = admit(file, turns, lengths);
-    if admitted.code != 0 {
+    if admitted.code != ACCEPTED {
         return admitted.code;
     }
     let workers = admitted.layout.workers;
@@ -51,5 +56,5 @@ pub extern "C" fn tampermauve_run(
     let fates = played.fates;
     let counts = t.counts;
     close_buffers(t.lists.list, counts, &fates, workers, log, report, work);
-    0
+    ACCEPTED
 }

@@ -10,19 +10,19 @@ use lib.Seq.{drop-cons}
 use Rattle.protocol.specs.Rounds.{Entry}
 use Rattle.protocol.specs.Report.{End}
 use Rattle.protocol.specs.Listing.{decimal, space, separator, line, recordLine, endWord, endLine}
-use Rattle.text.proofs.Writing.{Left, left-as}
+use Rattle.text.proofs.Writing.{Remains, left-as}
 use Rattle.text.proofs.Digits.{few-digits}
 
 module _ {before : List ℕ} {at : ℕ} {whole text : List ℕ} {end : ℕ} (ns : List ℕ) (i : ℕ) where
   -- a line from its number i on is left to write
-  pub number-left : Left before at whole text end (line (drop i ns)) → i < length ns
-      → Left before at whole text end (decimal (getD ns i 0) ++ (separator (drop (i + 1) ns) ∷ line (drop (i + 1) ns)))
+  pub number-left : Remains before at whole text end (line (drop i ns)) → i < length ns
+      → Remains before at whole text end (decimal (getD ns i 0) ++ (separator (drop (i + 1) ns) ∷ line (drop (i + 1) ns)))
   unfolding line
   number-left left h = left-as left (rw add-one (ap line (drop-cons ns i 0 h)))
 
   -- what stands behind its number i, and the numbers behind that
-  pub separator-left : (b : ℕ) → Left before at whole text end (separator (drop (i + 1) ns) ∷ line (drop (i + 1) ns)) → b ≡ separator (drop (i + 1) ns)
-      → Left before at whole text end (b ∷ line (drop (i + 1) ns))
+  pub separator-left : (b : ℕ) → Remains before at whole text end (separator (drop (i + 1) ns) ∷ line (drop (i + 1) ns)) → b ≡ separator (drop (i + 1) ns)
+      → Remains before at whole text end (b ∷ line (drop (i + 1) ns))
   separator-left b left e = left-as left (ap (λ (x : ℕ). x ∷ line (drop (i + 1) ns)) (sym e))
 
 -- how long a line is: one more number, of at most k + 1 digits

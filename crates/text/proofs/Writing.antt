@@ -15,19 +15,19 @@ sets-append (x ∷ a) b l i =
     sets-append a b (set l i x) (suc i) ∙ ap (λ (k : ℕ). sets (sets (set l i x) (suc i) a) k b) e
 
 -- with the rest written at the end, the text is what it was with the whole written at its place
-pub record Left (before : List ℕ) (at : ℕ) (whole text : List ℕ) (end : ℕ) (rest : List ℕ) : Type 0 where
+pub record Remains (before : List ℕ) (at : ℕ) (whole text : List ℕ) (end : ℕ) (rest : List ℕ) : Type 0 where
   pub same : sets text end rest ≡ sets before at whole
   pub ends : end + length rest ≡ at + length whole
 
-pub all-left : (before : List ℕ) (at : ℕ) (whole rest : List ℕ) → whole ≡ rest → Left before at whole before at rest
+pub all-left : (before : List ℕ) (at : ℕ) (whole rest : List ℕ) → whole ≡ rest → Remains before at whole before at rest
 all-left before at whole rest e = record { same = ap (λ (l : List ℕ). sets before at l) (sym e); ends = ap (λ (l : List ℕ). at + length l) (sym e) }
 
 module _ {before : List ℕ} {at : ℕ} {whole text : List ℕ} {end : ℕ} where
-  pub left-as : {rest same : List ℕ} → Left before at whole text end rest → rest ≡ same → Left before at whole text end same
-  left-as left e = subst (λ (l : List ℕ). Left before at whole text end l) e left
+  pub left-as : {rest same : List ℕ} → Remains before at whole text end rest → rest ≡ same → Remains before at whole text end same
+  left-as left e = subst (λ (l : List ℕ). Remains before at whole text end l) e left
 
-  pub less-left : {after : List ℕ} {next : ℕ} (a rest : List ℕ) → Left before at whole text end (a ++ rest) → Wrote text end a after next
-      → Left before at whole after next rest
+  pub less-left : {after : List ℕ} {next : ℕ} (a rest : List ℕ) → Remains before at whole text end (a ++ rest) → Wrote text end a after next
+      → Remains before at whole after next rest
   less-left {next = next} a rest left wrote =
       record {
         same =
@@ -36,14 +36,14 @@ module _ {before : List ℕ} {at : ℕ} {whole text : List ℕ} {end : ℕ} wher
         ends = omega (arith, wrote .ends, left .ends, length-append a rest);
       }
 
-  pub none-left : Left before at whole text end [] → Wrote before at whole text end
+  pub none-left : Remains before at whole text end [] → Wrote before at whole text end
   none-left left = record { stands = left .same; ends = omega (arith, left .ends) }
 
-  pub left-length : {rest : List ℕ} → Left before at whole text end rest → length text ≡ length before
+  pub left-length : {rest : List ℕ} → Remains before at whole text end rest → length text ≡ length before
   left-length {rest} left = sym (length-sets text end rest) ∙ (ap length (left .same) ∙ length-sets before at whole)
 
   -- what was room for the whole is room for the next piece
-  pub room-left : (a rest : List ℕ) → Left before at whole text end (a ++ rest) → at + length whole ≤ length before → end + length a ≤ length text
+  pub room-left : (a rest : List ℕ) → Remains before at whole text end (a ++ rest) → at + length whole ≤ length before → end + length a ≤ length text
   room-left a rest left room = omega (arith, left .ends, left-length left, length-append a rest)
 
 -- what was written, by itself and followed by another piece

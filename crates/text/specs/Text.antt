@@ -6,10 +6,24 @@ use mathlib.Core.List.{List, [], _∷_}
 use lib.Dec.{eqb}
 use lib.ListN.{length, getD}
 use lib.Seq.{sets}
-use Rattle.protocol.specs.Format.{word}
 use Rattle.protocol.specs.Rounds.{Entry}
-use Rattle.protocol.specs.Report.{End, finished, stuck}
+use Rattle.protocol.specs.Report.{entryLength, End, finished, stuck, endNumber}
 use Rattle.protocol.specs.Listing.{endLine}
+use Rattle.words.specs.Bytes.{wordAt}
+use Rattle.journal.specs.Offsets.{entryRound, entryWorker, entryOp, entryNumber, entryOutcome, reportEnd, reportMoves}
+
+-- the most bytes of a record's line, of an end's word with a space, of the last line, and of a refusal's line
+abbrev pub recordLineLimit : ℕ
+recordLineLimit = 22
+
+abbrev pub endWordLimit : ℕ
+endWordLimit = 9
+
+abbrev pub endLineLimit : ℕ
+endLineLimit = 15
+
+abbrev pub refusalLineLimit : ℕ
+refusalLineLimit = 21
 
 -- these bytes stand from a place on, all else is as it was, and the end is the place behind them
 pub record Wrote (before : List ℕ) (at : ℕ) (bytes after : List ℕ) (end : ℕ) : Type 0 where
@@ -20,22 +34,23 @@ pub record Wrote (before : List ℕ) (at : ℕ) (bytes after : List ℕ) (end : 
 abbrev pub entryAt : List ℕ → ℕ → Entry
 entryAt log at =
     record {
-      round = word (getD log (at + 2) 0) (getD log (at + 3) 0);
-      worker = getD log (at + 4) 0;
-      op = getD log (at + 5) 0;
-      number = getD log (at + 6) 0;
-      outcome = getD log (at + 7) 0;
+      round = wordAt log (at + entryRound);
+      worker = getD log (at + entryWorker) 0;
+      op = getD log (at + entryOp) 0;
+      number = getD log (at + entryNumber) 0;
+      outcome = getD log (at + entryOutcome) 0;
     }
 
 -- so many records, the first of which has the given index
 unfoldable pub entriesFrom : List ℕ → ℕ → ℕ → List Entry
 entriesFrom log zero i = []
-entriesFrom log (suc k) i = entryAt log (8 * i) ∷ entriesFrom log k (suc i)
+entriesFrom log (suc k) i = entryAt log (entryLength * i) ∷ entriesFrom log k (suc i)
 
 -- the end of a plan that has ended, by its number
-abbrev pub endBy : ℕ → End
-endBy k = cond (eqb k 1) finished stuck
+abbrev pub endNumbered : ℕ → End
+endNumbered k = cond (eqb k (endNumber finished)) finished stuck
 
 -- the last line, by a report
 abbrev pub lastLine : List ℕ → List ℕ
-lastLine report = endLine (endBy (getD report 0 0)) (word (getD report 2 0) (getD report 3 0))
+lastLine report =
+    endLine (endNumbered (getD report reportEnd 0)) (wordAt report reportMoves)

@@ -5,9 +5,10 @@ mod memory;
 use crate::memory::memory_sum;
 use libc::STDOUT_FILENO;
 use listed::list;
-use plan::decode::pair;
+use pages::MEMORY_LENGTH;
 use text::write_bytes;
 use text::write_line;
+use words::word;
 ghost use Prim.Native.Nat.{_≤_};
 ghost use lib.ListN.{length};
 
@@ -22,7 +23,7 @@ fn read_number(fd: i32) -> Number {
     if length < 2 {
         return Number::CutShort;
     }
-    Number::Read(pair(bytes[0], bytes[1]))
+    Number::Read(word(bytes[0], bytes[1]))
 }
 
 // A word with a space behind it, and a number: the room is for any.
@@ -36,7 +37,7 @@ fn print_line(word: &[u8], number: u64)
 }
 
 fn list_plan(file: &[u8]) {
-    let mut memory = [0u8; 2048];
+    let mut memory = [0u8; MEMORY_LENGTH];
     let code = list(file, &mut memory);
     if code == 0 {
         print_line(b"memory ", memory_sum(&memory));

@@ -1,1 +1,2 @@
+-- What a record more takes and leaves.
 pub mod Appended

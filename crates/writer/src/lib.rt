@@ -1,7 +1,8 @@
 // The log writer: it carries the lent log and its fill mark, the number of records that the log has. A function that takes or
 // makes one is proved by a walk of its MIR, so there are two; `append_at`, which writes the bytes, is covered.
-use journal::bytes::put;
-ghost use Rattle.writer.specs.Appended.{Fits, Appended};
+use journal::log::ENTRY_LENGTH;
+use words::put;
+ghost use Rattle.writer.specs.Appended.{Appending, Appended};
 
 pub struct LogWriter<'a> {
     pub log: &'a mut [u8],
@@ -10,17 +11,17 @@ pub struct LogWriter<'a> {
 
 // Writes a record behind those that the log has, and gives the mark behind it.
 fn append_at(log: &mut [u8], records: usize, entry: u64) -> usize
-    requires { ⌜ Fits (now log) records ⌝ }
+    requires { ⌜ Appending (now log) records ⌝ }
     ensures { λ r. ⌜ Appended (now (log .entry)) records entry r (now (log .exit)) ⌝ }
 {
-    let at = 8 * records;
+    let at = ENTRY_LENGTH * records;
     put(log, at, entry);
     records + 1
 }
 
 // The writer is taken apart: its log and its mark go to `append_at`.
 pub fn append<'a>(w: LogWriter<'a>, entry: u64) -> usize
-    requires { ⌜ Fits (now (w .log)) (w .records) ⌝ }
+    requires { ⌜ Appending (now (w .log)) (w .records) ⌝ }
     ensures { λ r. ⌜ Appended (now (w .entry .log)) (w .entry .records) entry r (now (w .exit .0)) ⌝ }
 {
     let records = w.records;
@@ -29,7 +30,7 @@ pub fn append<'a>(w: LogWriter<'a>, entry: u64) -> usize
 
 // The same from a log and its mark: the contract says nothing of a writer, so no caller needs a walk.
 pub fn append_record(log: &mut [u8], records: usize, entry: u64) -> usize
-    requires { ⌜ Fits (now log) records ⌝ }
+    requires { ⌜ Appending (now log) records ⌝ }
     ensures { λ r. ⌜ Appended (now (log .entry)) records entry r (now (log .exit)) ⌝ }
 {
     append(LogWriter { log, records }, entry)

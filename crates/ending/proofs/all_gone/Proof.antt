@@ -1,9 +1,12 @@
+-- `all_gone`: what is asked of the workers left is what is asked of all.
 use native.Mathlib.Omega.{arith}
 use borrow.Author.Needs.{needs}
 use borrow.Author.Tests.{lt-ltb, le-ltb}
-use Prim.Native.Nat.{_-_, _≤_}
+use Prim.Native.Nat.{_+_, _-_, _≤_}
+use mathlib.Core.Bool.{_&&_}
 use mathlib.Core.Path.{_≡_, refl, sym, _∙_}
-use Rattle.ending.specs.Ending.{allGone}
+use lib.ListN.{getD}
+use Rattle.ending.specs.Ending.{isGone, allGone}
 use Rattle.ending.proofs.Gone.{gone-step, gone-end, gone-start}
 use Rattle.ending.proofs.all_gone.Statement.{statement}
 use Rattle.ending.proofs.all_gone.Tie as tie
@@ -23,13 +26,18 @@ mul-code c = search needs
 element-copy-out-code : tie.Need-element-copy-out-code Inv-loop μ-loop
 element-copy-out-code c = search needs
 
+-- what is asked of all, in a turn of the loop: of this worker, and of those behind it
+this-and-others : (c : tie.In-loop Inv-loop μ-loop)
+    → allGone (c .before .before .args .fates .now) (c .before .before .args .workers) 0
+    ≡ isGone (getD (c .before .before .args .fates .now) (c .before .loop .w) 0)
+    && allGone (c .before .before .args .fates .now) (c .before .before .args .workers - (c .before .loop .w + 1)) (c .before .loop .w + 1)
+this-and-others c = sym (c .before .loop .inv .2) ∙ gone-step _ _ _ (omega arith)
+
 returns : tie.Need-returns Inv-loop μ-loop
-returns c =
-    sym (sym (c .before .before .before .loop .inv .2) ∙ (gone-step (c .before .before .before .before .args .fates .now) (c .before .before .before .before .args .workers) (c .before .before .before .loop .w) (let i = c .before .before .before .loop .inv in let t = c .before .before .loop-test .taken in omega arith) ∙ simp (lt-ltb _ _ (c .if1 .taken))))
+returns c = rw (this-and-others (c .before .before)) (simp (lt-ltb _ _ (c .if1 .taken)))
 
 returns-2 : tie.Need-returns-2 Inv-loop μ-loop
-returns-2 c =
-    sym (sym (c .before .before .before .before .loop .inv .2) ∙ (gone-step (c .before .before .before .before .before .args .fates .now) (c .before .before .before .before .before .args .workers) (c .before .before .before .before .loop .w) (let i = c .before .before .before .before .loop .inv in let t = c .before .before .before .loop-test .taken in omega arith) ∙ simp (le-ltb _ _ (c .before .if1 .left), lt-ltb _ _ (c .if2 .taken))))
+returns-2 c = rw (this-and-others (c .before .before .before)) (simp (le-ltb _ _ (c .before .if1 .left), lt-ltb _ _ (c .if2 .taken)))
 
 add-w : tie.Need-add-w Inv-loop μ-loop
 add-w c = search needs
@@ -40,13 +48,12 @@ loop-less c = search needs
 loop-again : tie.Need-loop-again Inv-loop μ-loop
 loop-again c = (
   omega arith,
-  c .before .before .before .before .loop .inv .1,
-  sym (sym (c .before .before .before .before .loop .inv .2) ∙ (gone-step (c .before .before .before .before .before .args .fates .now) (c .before .before .before .before .before .args .workers) (c .before .before .before .before .loop .w) (let i = c .before .before .before .before .loop .inv in let t = c .before .before .before .loop-test .taken in omega arith) ∙ simp (le-ltb _ _ (c .before .if1 .left), le-ltb _ _ (c .if2 .left)))),
+  search needs,
+  rw (this-and-others (c .before .before .before)) (simp (le-ltb _ _ (c .before .if1 .left), le-ltb _ _ (c .if2 .left))),
 )
 
 returns-3 : tie.Need-returns-3 Inv-loop μ-loop
-returns-3 c =
-    sym (sym (c .before .loop .inv .2) ∙ gone-end (c .before .before .args .fates .now) (c .before .before .args .workers) (c .before .loop .w) (omega arith))
+returns-3 c = rw (← c .before .loop .inv .2) (sym (gone-end _ _ _ (omega arith)))
 
 pub all-gone-spec : {M : Type 1} → statement M
 all-gone-spec =

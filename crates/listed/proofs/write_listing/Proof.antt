@@ -1,6 +1,8 @@
+-- `write_listing`: a refusal's line; or the lines of the records that the run leaves, and the last line.
 use borrow.Author.Needs.{needs}
 use native.Mathlib.Omega.{arith}
 use Prim.Native.Nat.{_≤_}
+use Rattle.journal.specs.Offsets.{entriesLimit}
 use Rattle.text.proofs.Writing.{wrote-length, wrote-as, wrote-both}
 use Rattle.listed.proofs.Told.{Told, refused-text, accepted-text, written}
 use Rattle.listed.proofs.write_listing.Statement.{statement}
@@ -11,6 +13,9 @@ slice-aggregate-run-listed c = search needs
 
 slice-aggregate-run-listed-2 : tie.Need-slice-aggregate-run-listed-2
 slice-aggregate-run-listed-2 c = search needs
+
+abbrev start : tie.After-run-listed → tie.Start
+start c = c .before .before .before .before .before .before .before
 
 run-listed-requires : tie.Need-run-listed-requires
 run-listed-requires c κs = search needs
@@ -28,18 +33,16 @@ returns : tie.Need-returns
 returns c =
     let wrote = c .before .before in
     let refused = wrote .before .before in
-    let run = refused .before .before .before .before .before .run-listed .ensures in
-    let entry = refused .before .before .before .before .before .before .before .before .before .before .before .before in
-    written _ run (wrote-as (wrote .write-refusal .ensures .0) (refused-text _ _ (run .code) (refused .if1 .taken))) (omega (arith, wrote .write-refusal .ensures .1, entry .pre .1))
+    let ran = refused .before .before .before .before .before in
+    written _ (ran .run-listed .ensures)
+    (wrote-as (wrote .write-refusal .ensures .0) (refused-text _ _ (ran .run-listed .ensures .code) (refused .if1 .taken)))
+    (omega (arith, wrote .write-refusal .ensures .1, start ran .pre .1))
 
-array-read-pair : tie.Need-array-read-pair
-array-read-pair c = search needs
+slice-aggregate-word-at : tie.Need-slice-aggregate-word-at
+slice-aggregate-word-at c = search needs
 
-array-read-pair-2 : tie.Need-array-read-pair-2
-array-read-pair-2 c = search needs
-
-pair-requires : tie.Need-pair-requires
-pair-requires c κs = search needs
+word-at-requires : tie.Need-word-at-requires
+word-at-requires c κs = search needs
 
 cast-records : tie.Need-cast-records
 cast-records c = search needs
@@ -48,25 +51,26 @@ slice-aggregate-write-log : tie.Need-slice-aggregate-write-log
 slice-aggregate-write-log c = search needs
 
 -- what the log and the report of an accepted plan tell
-told : (c : tie.After-pair)
-    → Told (c .before .before .before .before .before .before .before .before .before .before .before .before .before .args .file .now) (c .before .before .before .before .before .before .run-listed .last .1 .1 .0) (c .before .before .before .before .before .before .run-listed .last .1 .1 .1 .0)
-told c = accepted-text _ (c .before .before .before .before .before .before .run-listed .ensures) (c .before .if1 .left)
+module _ (c : tie.After-word-at) where
+  abbrev ran : tie.After-run-listed
+  ran = c .before .before .before .before .before .before .before
 
-few : (c : tie.After-pair) → c .pair .result ≤ 1032
-few c = omega (arith, c .pair .ensures, told c .records)
+  told : Told (start ran .args .file .now) (ran .run-listed .last .1 .1 .0) (ran .run-listed .last .1 .1 .1 .0)
+  told = accepted-text _ (ran .run-listed .ensures) (c .before .before .if1 .left)
+
+  few : c .word-at .result ≤ entriesLimit
+  few = omega (arith, c .word-at .ensures, told .records)
 
 write-log-requires : tie.Need-write-log-requires
 write-log-requires c κs =
-    let pair = c .before .before in
-    let run = pair .before .before .before .before .before .before in
-    (omega (arith, few pair, run .run-listed .kept), omega (arith, few pair, run .before .before .before .before .before .before .before .pre .1))
+    let read = c .before .before in
+    (omega (arith, few read, ran read .run-listed .kept), omega (arith, few read, start (ran read) .pre .1))
 
 write-end-requires : tie.Need-write-end-requires
 write-end-requires c κs =
     let wrote = c .before .before .before .before in
-    let pair = wrote .before .before .before in
-    let run = pair .before .before .before .before .before .before in
-    omega (arith, few pair, wrote .write-log .ensures .1, wrote-length (wrote .write-log .ensures .0), run .before .before .before .before .before .before .before .pre .1)
+    let read = wrote .before .before .before in
+    omega (arith, few read, wrote .write-log .ensures .1, wrote-length (wrote .write-log .ensures .0), start (ran read) .pre .1)
 
 same-length-3 : tie.Need-same-length-3
 same-length-3 c = search needs
@@ -78,11 +82,10 @@ returns-2 : tie.Need-returns-2
 returns-2 c =
     let ended = c .before .before in
     let wrote = ended .before .before .before .before .before in
-    let pair = wrote .before .before .before in
-    let run = pair .before .before .before .before .before .before in
-    written _ (run .run-listed .ensures)
-    (wrote-as (wrote-both _ _ (wrote .write-log .ensures .0) (ended .write-end .ensures .0)) (told pair .text _ (pair .pair .ensures)))
-    (omega (arith, few pair, wrote .write-log .ensures .1, ended .write-end .ensures .1, run .before .before .before .before .before .before .before .pre .1))
+    let read = wrote .before .before .before in
+    written _ (ran read .run-listed .ensures)
+    (wrote-as (wrote-both _ _ (wrote .write-log .ensures .0) (ended .write-end .ensures .0)) (told read .text _ (read .word-at .ensures)))
+    (omega (arith, few read, wrote .write-log .ensures .1, ended .write-end .ensures .1, start (ran read) .pre .1))
 
 pub write-listing-spec : {M : Type 1} → statement M
 write-listing-spec =
@@ -95,9 +98,8 @@ write-listing-spec =
     same-length
     same-length-2
     returns
-    array-read-pair
-    array-read-pair-2
-    pair-requires
+    slice-aggregate-word-at
+    word-at-requires
     cast-records
     slice-aggregate-write-log
     write-log-requires

@@ -14,14 +14,14 @@ add-load-byte c = search needs
 load-byte-requires-2 : tie.Need-load-byte-requires-2
 load-byte-requires-2 c κs = search needs
 
-word-of-requires : tie.Need-word-of-requires
-word-of-requires c κs = search needs
+word-requires : tie.Need-word-requires
+word-requires c κs = search needs
 
 returns : tie.Need-returns
 unfolding loadWord
-returns c = omega (arith, c .word-of .ensures, c .before .load-byte2 .ensures, c .before .before .load-byte .ensures)
+returns c = omega (arith, c .word .ensures, c .before .load-byte2 .ensures, c .before .before .load-byte .ensures)
 
 pub load-spec : {M : Type 1} → statement M
 load-spec =
     tie.close
-    (tie.spec load-byte-requires add-load-byte load-byte-requires-2 word-of-requires returns)
+    (tie.spec load-byte-requires add-load-byte load-byte-requires-2 word-requires returns)

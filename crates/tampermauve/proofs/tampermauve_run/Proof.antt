@@ -1,9 +1,13 @@
+-- `tampermauve_run`: a refused run by the answer to its tests, an accepted one by what was played and what its end leaves.
 use borrow.Author.Needs.{needs}
+use Prim.Native.Nat.{ℕ}
 use native.Mathlib.Omega.{arith}
 use mathlib.Core.Path.{_≡_}
+use mathlib.Core.List.{List}
+use Rattle.protocol.specs.Calls.{Buffers}
 use Rattle.tampermauve.specs.Run.{lent}
 use Rattle.tampermauve.proofs.Ran.{ran, refusal, acceptance}
-use Rattle.tampermauve.proofs.Left.{ends, left-same}
+use Rattle.tampermauve.proofs.Left.{closing, left-same}
 use Rattle.tampermauve.proofs.Entering.{none-refused, fits, ok, workers-right, playing}
 use Rattle.tampermauve.proofs.tampermauve_run.Statement.{statement}
 use Rattle.tampermauve.proofs.tampermauve_run.Tie as tie
@@ -11,25 +15,54 @@ use Rattle.tampermauve.proofs.tampermauve_run.Tie as tie
 admit-requires : tie.Need-admit-requires
 admit-requires c κs = search needs
 
+-- what the call was given
+module _ (c : tie.After-admit) where
+  abbrev start : tie.Start
+  start = c .before .before .before .before .before .before .before
+
+  abbrev file : List ℕ
+  file = start .args .file .now
+
+  abbrev turns : List ℕ
+  turns = start .args .turns .now
+
+  abbrev given : Buffers
+  given = lent (start .args .memory .now) (start .args .log .now) (start .args .report .now) (start .args .work .now)
+
 returns : tie.Need-returns
 returns c =
-    let a = c .before .before .before .before .before .before .before .before .before .args in
-    ran (a .file .now) (a .turns .now) (lent (a .memory .now) (a .log .now) (a .report .now) (a .work .now)) _ _
-    (refusal (a .file .now) (a .turns .now) (lent (a .memory .now) (a .log .now) (a .report .now) (a .work .now)) _ (c .before .before .admit .ensures .code) (λ e. omega (arith, e, c .if1 .taken)))
+    let a = c .before .before in
+    ran (file a) (turns a) (given a) _ _ (refusal (file a) (turns a) (given a) _ (a .admit .ensures .code) (λ e. omega (arith, e, c .if1 .taken)))
+
+-- the run is admitted
+module _ (c : tie.Else1) where
+  abbrev admitted : tie.After-admit
+  admitted = c .before .before
+
+  none : admitted .admit .result .code ≡ 0
+  none = omega (arith, c .if1 .left)
 
 play-requires : tie.Need-play-requires
 play-requires c κs =
-    let a = c .before .before .before .before .before .before .before .before .before .before .before .before .before .before .before .before .args in
-    playing (a .file .now) (a .turns .now) (lent (a .memory .now) (a .log .now) (a .report .now) (a .work .now)) _ (c .before .before .before .before .before .before .before .before .before .admit .ensures) (omega (arith, c .before .before .before .before .before .before .before .if1 .left))
+    let e = c .before .before .before .before .before .before .before in
+    let a = admitted e in
+    playing (file a) (turns a) (given a) _ (a .admit .ensures) (none e)
+
+-- the turns are played
+abbrev at-play : tie.After-close-buffers-arg3 → tie.After-play
+at-play c = c .before .before .before .before .before .before .before .before .before .before .before .before .before
+
+abbrev at-else : tie.After-play → tie.Else1
+at-else c = c .before .before .before .before .before .before .before .before
 
 close-buffers-requires : tie.Need-close-buffers-requires
 close-buffers-requires c κs =
-    let a = c .before .before .before .before .before .before .before .before .before .before .before .before .before .before .before .before .before .before .before .before .before .before .before .before .before .before .before .before .before .args in
-    let h = c .before .before .before .before .before .before .before .before .before .before .before .before .before .before .before .before .before .before .before .before .before .before .admit .ensures in
-    let z : c .before .before .before .before .before .before .before .before .before .before .before .before .before .before .before .before .before .before .before .before .before .before .admit .result .code ≡ 0 = omega (arith, c .before .before .before .before .before .before .before .before .before .before .before .before .before .before .before .before .before .before .before .before .if1 .left) in
-    ends (a .file .now) (a .turns .now) (a .memory .now) (ok (a .file .now) (a .turns .now) (lent (a .memory .now) (a .log .now) (a .report .now) (a .work .now)) _ h z) (c .before .before .before .before .before .before .before .before .before .before .before .before .play .result) _
-    (workers-right (a .file .now) (a .turns .now) (lent (a .memory .now) (a .log .now) (a .report .now) (a .work .now)) _ h z) (c .before .before .before .before .before .before .before .before .before .before .before .before .play .ensures)
-    (fits (a .file .now) (a .turns .now) (lent (a .memory .now) (a .log .now) (a .report .now) (a .work .now)) _ h z .report)
+    let p = at-play c in
+    let a = admitted (at-else p) in
+    let h = a .admit .ensures in
+    let z = none (at-else p) in
+    closing (file a) (turns a) (given a .memory) (ok (file a) (turns a) (given a) _ h z) (p .play .result) _
+    (workers-right (file a) (turns a) (given a) _ h z) (p .play .ensures) (fits (file a) (turns a) (given a) _ h z .report)
 
 same-length : tie.Need-same-length
 same-length c = search needs
@@ -45,13 +78,15 @@ same-length-4 c = search needs
 
 returns-2 : tie.Need-returns-2
 returns-2 c =
-    let a = c .before .before .before .before .before .before .before .before .before .before .before .before .before .before .before .before .before .before .before .before .before .before .before .before .before .before .before .before .before .before .before .before .before .before .before .before .args in
-    let h = c .before .before .before .before .before .before .before .before .before .before .before .before .before .before .before .before .before .before .before .before .before .before .before .before .before .before .before .before .before .admit .ensures in
-    let z : c .before .before .before .before .before .before .before .before .before .before .before .before .before .before .before .before .before .before .before .before .before .before .before .before .before .before .before .before .before .admit .result .code ≡ 0 = omega (arith, c .before .before .before .before .before .before .before .before .before .before .before .before .before .before .before .before .before .before .before .before .before .before .before .before .before .before .before .if1 .left) in
-    ran (a .file .now) (a .turns .now) (lent (a .memory .now) (a .log .now) (a .report .now) (a .work .now)) 0 _
-    (acceptance (a .file .now) (a .turns .now) (lent (a .memory .now) (a .log .now) (a .report .now) (a .work .now)) _ (none-refused (a .file .now) (a .turns .now) (lent (a .memory .now) (a .log .now) (a .report .now) (a .work .now)) _ h z)
-    (left-same (a .file .now) (a .turns .now) (a .memory .now) (ok (a .file .now) (a .turns .now) (lent (a .memory .now) (a .log .now) (a .report .now) (a .work .now)) _ h z) (c .before .before .before .before .before .before .before .before .before .before .before .before .before .before .before .before .before .before .before .play .result) _
-    (workers-right (a .file .now) (a .turns .now) (lent (a .memory .now) (a .log .now) (a .report .now) (a .work .now)) _ h z) (c .before .before .before .before .before .before .before .before .before .before .before .before .before .before .before .before .before .before .before .play .ensures) (c .before .before .before .before .before .before .close-buffers .ensures)))
+    let closed = c .before .before .before .before .before .before in
+    let p = at-play (closed .before) in
+    let a = admitted (at-else p) in
+    let h = a .admit .ensures in
+    let z = none (at-else p) in
+    ran (file a) (turns a) (given a) 0 _
+    (acceptance (file a) (turns a) (given a) _ (none-refused (file a) (turns a) (given a) _ h z)
+    (left-same (file a) (turns a) (given a .memory) (ok (file a) (turns a) (given a) _ h z) (p .play .result) _
+    (workers-right (file a) (turns a) (given a) _ h z) (p .play .ensures) (closed .close-buffers .ensures)))
 
 pub tampermauve-run-spec : {M : Type 1} → statement M
 tampermauve-run-spec =

@@ -5,12 +5,12 @@ use mathlib.Core.Path.{refl}
 use mathlib.Core.List.{[], _∷_}
 use lib.ListN.{length, getD, drop, drop-of-length-le}
 use lib.Seq.{drop-cons}
-use Rattle.text.proofs.Writing.{Left, all-left, left-as, room-left, less-left, none-left, left-length}
+use Rattle.text.proofs.Writing.{Remains, all-left, left-as, room-left, less-left, none-left, left-length}
 use Rattle.text.proofs.write_bytes.Statement.{statement}
 use Rattle.text.proofs.write_bytes.Tie as tie
 
 abbrev Inv-loop : tie.InvT-loop
-Inv-loop bytes text₀ at end₀ i₀ text end i = Left text₀ at bytes text end (drop i bytes)
+Inv-loop bytes text₀ at end₀ i₀ text end i = Remains text₀ at bytes text end (drop i bytes)
 
 abbrev μ-loop : tie.MeasureT-loop
 μ-loop bytes text₀ at end₀ i₀ text end i = length bytes - i
@@ -23,7 +23,7 @@ shared-slice-read-write-byte c = search needs
 
 -- the next byte, and those behind it
 left : (c : tie.In-loop Inv-loop μ-loop)
-    → Left (c .before .before .before .before .args .text .now) (c .before .before .before .before .args .at) (c .before .before .before .before .args .bytes .now) (c .before .loop .text) (c .before .loop .end) (getD (c .before .before .before .before .args .bytes .now) (c .before .loop .i) 0 ∷ drop (c .before .loop .i + 1) (c .before .before .before .before .args .bytes .now))
+    → Remains (c .before .before .before .before .args .text .now) (c .before .before .before .before .args .at) (c .before .before .before .before .args .bytes .now) (c .before .loop .text) (c .before .loop .end) (getD (c .before .before .before .before .args .bytes .now) (c .before .loop .i) 0 ∷ drop (c .before .loop .i + 1) (c .before .before .before .before .args .bytes .now))
 left c = left-as (c .before .loop .inv) (rw add-one (drop-cons _ _ 0 (c .loop-test .taken)))
 
 write-byte-requires : tie.Need-write-byte-requires Inv-loop μ-loop

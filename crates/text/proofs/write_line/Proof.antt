@@ -4,13 +4,13 @@ use mathlib.Core.Path.{refl, ap}
 use mathlib.Core.List.{[], _∷_}
 use lib.ListN.{length, drop, drop-of-length-le}
 use Rattle.protocol.specs.Listing.{decimal, line}
-use Rattle.text.proofs.Writing.{Left, all-left, left-as, room-left, less-left, none-left, left-length}
+use Rattle.text.proofs.Writing.{Remains, all-left, left-as, room-left, less-left, none-left, left-length}
 use Rattle.text.proofs.Numbers.{number-left, separator-left}
 use Rattle.text.proofs.write_line.Statement.{statement}
 use Rattle.text.proofs.write_line.Tie as tie
 
 abbrev Inv-loop : tie.InvT-loop
-Inv-loop numbers text₀ at end₀ next₀ text end next = Left text₀ at (line numbers) text end (line (drop next numbers))
+Inv-loop numbers text₀ at end₀ next₀ text end next = Remains text₀ at (line numbers) text end (line (drop next numbers))
 
 abbrev μ-loop : tie.MeasureT-loop
 μ-loop numbers text₀ at end₀ next₀ text end next = length numbers - next
@@ -31,7 +31,7 @@ write-decimal-requires c κs =
 
 -- what stands behind the number, and the line's rest
 left : (c : tie.After-separator Inv-loop μ-loop)
-    → Left (c .before .before .before .before .before .before .before .before .before .before .args .text .now) (c .before .before .before .before .before .before .before .before .before .before .args .at) (line (c .before .before .before .before .before .before .before .before .before .before .args .numbers .now)) (c .before .before .before .write-decimal .last .1 .0) (c .before .before .before .write-decimal .result) (c .separator .result ∷ line (drop (c .before .before .before .before .before .before .before .loop .next + 1) (c .before .before .before .before .before .before .before .before .before .before .args .numbers .now)))
+    → Remains (c .before .before .before .before .before .before .before .before .before .before .args .text .now) (c .before .before .before .before .before .before .before .before .before .before .args .at) (line (c .before .before .before .before .before .before .before .before .before .before .args .numbers .now)) (c .before .before .before .write-decimal .last .1 .0) (c .before .before .before .write-decimal .result) (c .separator .result ∷ line (drop (c .before .before .before .before .before .before .before .loop .next + 1) (c .before .before .before .before .before .before .before .before .before .before .args .numbers .now)))
 left c =
     let wrote = c .before .before .before in
     let turn = wrote .before .before .before in

@@ -39,7 +39,7 @@ use denote.Triple.Walked.{says, needs, Stays, stay-none, walkOf, goes-none, Walk
 use denote.Exit.{yes}
 use denote.Signature.{namedLft}
 use denote.Signature.Struct.{inStruct, makes}
-use Rattle.writer.specs.Appended.{Fits, Appended}
+use Rattle.writer.specs.Appended.{Appending, Appended}
 use Rattle.writer.specs.declared.LogWriter.{LogWriter}
 use Rattle.writer.proofs.LogWriter as T
 use Rattle.writer.proofs.LogWriter.Laws as T′
@@ -93,7 +93,7 @@ module _ {M : Type 1} (𝓤 : URA M) (H : Heap 𝓤) (A : Atoms 𝓤) (W : Given
   abbrev to-append-at : AppendAt 𝓤 H A mem run .Ghost
   to-append-at = (((κ, tt), (q, tt), tt, (x, (n, (v, tt))), (s ∷ [], (vint w64 n ∷ [], (vint w64 v ∷ [], tt)))), tt)
 
-  goes : Fits ys n → ent 𝓤 (sep 𝓤 (sep 𝓤 (A .lft κ q) (sem 𝓤 H A ftrue)) (sem 𝓤 H A (MutSlice (named 0) κ u8 .own x (s ∷ [])))) (AppendAt 𝓤 H A mem run .pre to-append-at)
+  goes : Appending ys n → ent 𝓤 (sep 𝓤 (sep 𝓤 (A .lft κ q) (sem 𝓤 H A ftrue)) (sem 𝓤 H A (MutSlice (named 0) κ u8 .own x (s ∷ [])))) (AppendAt 𝓤 H A mem run .pre to-append-at)
   goes fits =
       qed W ((‵ (flft κ q) ⊛ ‵ ftrue) ∷ ‵ (MutSlice (named 0) κ u8 .own x (s ∷ [])) ∷ []) ∵ says ! fits $ frame ! $
       nothing ! $ owned ! u64 (Is u64) (uint-makes 𝓤 H A W w64) v _ (refl, v-fits) $ fjoin ! $ owned ! usize (Is usize) (uint-makes 𝓤 H A W w64) n _ (refl, n-fits) $ fjoin ! $ move ! (1 ∷ 0 ∷ []) $ fjoin ! $ done !
@@ -112,7 +112,7 @@ module _ {M : Type 1} (𝓤 : URA M) (H : Heap 𝓤) (A : Atoms 𝓤) (W : Given
       nothing ! $ owned ! u64 (Is u64) (uint-makes 𝓤 H A W w64) v _ (refl, v-fits) $ fjoin ! $ move ! (1 ∷ 0 ∷ []) $ fjoin ! $ done !
 
   module _ (C : Calls 𝓤 H) (Λ : Loops 𝓤 H) (fm : FmC 𝓤 H (W .laws) C) (known : Triple 𝓤 (C #writer·append-at) (AppendAt 𝓤 H A mem run)) where
-    walk : Is (T.the-row α) h (mach ∷ []) → Room u8 (length ys) → Fits ys n → ent 𝓤 (onEntry 𝓤 H A append.signature (κ, tt) (q, tt) a vals) (WpFn 𝓤 H C Λ code.function (mach ∷ vint w64 v ∷ []) Post)
+    walk : Is (T.the-row α) h (mach ∷ []) → Room u8 (length ys) → Appending ys n → ent 𝓤 (onEntry 𝓤 H A append.signature (κ, tt) (q, tt) a vals) (WpFn 𝓤 H C Λ code.function (mach ∷ vint w64 v ∷ []) Post)
     walk g room fits =
         qed W ((‵ (flft κ q) ⊛ ‵ ftrue) ∷ ‵ (owns (T.the-row α ∷ u64 ∷ []) a vals) ∷ []) ∵ enter ! C Λ code.function (mach ∷ vint w64 v ∷ []) _ $
         alloc1 ! (λ l₀. alloc1 ! (λ l₁. alloc1 ! (λ l₂. alloc1 ! (λ l₃. alloc1 ! (λ l₄. alloc1 ! (λ l₅. alloc0 ! $ params1 ! $
@@ -140,7 +140,7 @@ module _ {M : Type 1} (𝓤 : URA M) (H : Heap 𝓤) (A : Atoms 𝓤) (W : Given
   append-walks : (C : Calls 𝓤 H) (Λ : Loops 𝓤 H) → FmC 𝓤 H (W .laws) C → Triple 𝓤 (C #writer·append-at) (AppendAt 𝓤 H A mem run) → Walks 𝓤 H A append.ended stayed (WpFn 𝓤 H C Λ code.function) (append.clauses 𝓤 H A mem run)
   append-walks C Λ fm known = walked 𝓤 H A append.ended stayed (append.clauses 𝓤 H A mem run) (WpFn 𝓤 H C Λ code.function)
       (λ κs. (LL.vals (T.the-type (namedLft 1 0 tt κs)) (T′.the-laws (namedLft 1 0 tt κs)), (uint-vals w64, tt))) (λ κs. (LL.tells (T.the-type (namedLft 1 0 tt κs)) (T′.the-laws (namedLft 1 0 tt κs)), (uint-tells w64, tt)))
-      (λ κs qs bounds a g are. needs 𝓤 (Fits (a .0 .log .now) (a .0 .records)) _ (λ fits.
+      (λ κs qs bounds a g are. needs 𝓤 (Appending (a .0 .log .now) (a .0 .records)) _ (λ fits.
       let fields = LL.owed (T.the-type (namedLft 1 0 tt κs)) (T′.the-laws (namedLft 1 0 tt κs)) (a .0) _ (are .0) in
       walk 𝓤 H A W mem run (κs .0) (qs .0) (a .0 .log .ptr .0) (a .0 .log .ptr .1) (a .0 .log .name) (a .0 .log .now) (a .0 .records) (a .1 .0) (fields .1 .0 .1) (are .1 .0 .1) C Λ fm known (are .0) (fields .0 .0 .1) fits))
 

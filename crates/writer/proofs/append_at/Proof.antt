@@ -5,7 +5,8 @@ use native.Mathlib.Omega.{arith}
 use mathlib.Core.Path.{_≡_}
 use mathlib.Core.List.{List}
 use lib.Seq.{sets}
-use Rattle.journal.specs.Bytes.{bytesOf}
+use Rattle.protocol.specs.Report.{entryLength}
+use Rattle.words.specs.Bytes.{bytesOf}
 use Rattle.writer.proofs.append_at.Statement.{statement}
 use Rattle.writer.proofs.append_at.Tie as tie
 
@@ -28,7 +29,7 @@ placed log bytes at place e same = rw same at e
 returns : tie.Need-returns
 returns c =
     let a = c .before .before .before .before .before .args in
-    record { count = omega arith; bytes = placed (a .log .now) (bytesOf 8 (a .entry)) _ _ (c .before .before .put .ensures) (omega arith) }
+    record { count = omega arith; bytes = placed (a .log .now) (bytesOf entryLength (a .entry)) _ _ (c .before .before .put .ensures) (omega arith) }
 
 pub append-at-spec : {M : Type 1} → statement M
 append-at-spec = tie.close (tie.spec mul-at put-requires add-result same-length returns)

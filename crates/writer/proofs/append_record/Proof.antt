@@ -37,7 +37,7 @@ use denote.Triple.Table.{entered, cited}
 use denote.Triple.Walked.{says, needs, Stays, stay-none, gave-slice, walkOf, goes-none, goes-gave-slice, Walks, ends-at, walked, walk-meets}
 use denote.Exit.{yes}
 use denote.Signature.{plain}
-use Rattle.writer.specs.Appended.{Fits, Appended}
+use Rattle.writer.specs.Appended.{Appending, Appended}
 use Rattle.writer.specs.declared.LogWriter.{LogWriter}
 use Rattle.writer.proofs.LogWriter as T
 use Rattle.writer.proofs.LogWriter.Laws as T′
@@ -91,7 +91,7 @@ module _ {M : Type 1} (𝓤 : URA M) (H : Heap 𝓤) (A : Atoms 𝓤) (W : Given
   abbrev to-append : Append 𝓤 H A mem run .Ghost
   to-append = (((κ, tt), (q, tt), tt, (h, (v, tt)), (mach ∷ [], (vint w64 v ∷ [], tt))), tt)
 
-  goes : Fits ys n → ent 𝓤 (sep 𝓤 (sep 𝓤 (A .lft κ q) (sem 𝓤 H A ftrue)) (sem 𝓤 H A (MutSlice (named 0) κ u8 .own x (s ∷ [])))) (Append 𝓤 H A mem run .pre to-append)
+  goes : Appending ys n → ent 𝓤 (sep 𝓤 (sep 𝓤 (A .lft κ q) (sem 𝓤 H A ftrue)) (sem 𝓤 H A (MutSlice (named 0) κ u8 .own x (s ∷ [])))) (Append 𝓤 H A mem run .pre to-append)
   goes fits =
       qed W ((‵ (flft κ q) ⊛ ‵ ftrue) ∷ ‵ (MutSlice (named 0) κ u8 .own x (s ∷ [])) ∷ []) ∵ says ! fits $ frame ! $
       -- [what the log's borrow owns]: with the mark's fact it is what the writer owns
@@ -107,7 +107,7 @@ module _ {M : Type 1} (𝓤 : URA M) (H : Heap 𝓤) (A : Atoms 𝓤) (W : Given
       nothing ! $ owned ! u64 (Is u64) (uint-makes 𝓤 H A W w64) v _ (refl, v-fits) $ fjoin ! $ owned ! usize (Is usize) (uint-makes 𝓤 H A W w64) n _ (refl, n-fits) $ fjoin ! $ move ! (1 ∷ 0 ∷ []) $ fjoin ! $ done !
 
   module _ (C : Calls 𝓤 H) (Λ : Loops 𝓤 H) (fm : FmC 𝓤 H (W .laws) C) (known : Triple 𝓤 (C #writer·append) (Append 𝓤 H A mem run)) where
-    walk : Room u8 (length ys) → Fits ys n → ent 𝓤 (onEntry 𝓤 H A append-record.signature (κ, tt) (q, tt) a vals) (WpFn 𝓤 H C Λ code.function (s ∷ vint w64 n ∷ vint w64 v ∷ []) Post)
+    walk : Room u8 (length ys) → Appending ys n → ent 𝓤 (onEntry 𝓤 H A append-record.signature (κ, tt) (q, tt) a vals) (WpFn 𝓤 H C Λ code.function (s ∷ vint w64 n ∷ vint w64 v ∷ []) Post)
     walk room fits =
         qed W ((‵ (flft κ q) ⊛ ‵ ftrue) ∷ ‵ (owns (MutSlice (named 0) κ u8 ∷ usize ∷ u64 ∷ []) a vals) ∷ []) ∵ enter ! C Λ code.function (s ∷ vint w64 n ∷ vint w64 v ∷ []) _ $
         alloc1 ! (λ l₀. alloc1 ! (λ l₁. alloc1 ! (λ l₂. alloc1 ! (λ l₃. alloc1 ! (λ l₄. alloc1 ! (λ l₅. alloc1 ! (λ l₆. alloc0 ! $ params1 ! $
@@ -135,7 +135,7 @@ module _ {M : Type 1} (𝓤 : URA M) (H : Heap 𝓤) (A : Atoms 𝓤) (W : Given
       → Walks 𝓤 H A append-record.ended stayed (WpFn 𝓤 H C Λ code.function) (append-record.clauses 𝓤 H A mem run)
   append-record-walks C Λ fm known = walked 𝓤 H A append-record.ended stayed (append-record.clauses 𝓤 H A mem run) (WpFn 𝓤 H C Λ code.function)
       (λ κs. (slice-vals, (uint-vals w64, (uint-vals w64, tt)))) (λ κs. (mut-slice-tells (named 0) (κs .0) u8, (uint-tells w64, (uint-tells w64, tt))))
-      (λ κs qs bounds a g are. needs 𝓤 (Fits (a .0 .now) (a .1 .0)) _ (λ fits.
+      (λ κs qs bounds a g are. needs 𝓤 (Appending (a .0 .now) (a .1 .0)) _ (λ fits.
       walk 𝓤 H A W mem run (κs .0) (qs .0) (a .0 .ptr .0) (a .0 .ptr .1) (a .0 .name) (a .0 .now) (a .1 .0) (a .1 .1 .0) (are .1 .0 .1) (are .1 .1 .0 .1) C Λ fm known (are .0 .0 .1) fits))
 
 append-record-meets : {M : Type 1} (𝓤 : URA M) (H : Heap 𝓤) (A : Atoms 𝓤) → Given 𝓤 H A → (mem : Memory → SProp 𝓤) (run : Routine → Fun 𝓤) (𝓣 : Tables 𝓤 H) → Triple 𝓤 (𝓣 .C #writer·append) (Append 𝓤 H A mem run)

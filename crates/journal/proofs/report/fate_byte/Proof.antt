@@ -1,3 +1,4 @@
+-- `fate_byte`: the byte that each of the tests leads to.
 use borrow.Author.Needs.{needs}
 use borrow.Author.Tests.{le-leb, lt-leb, lt-ltb, le-ltb}
 use native.Mathlib.Omega.{arith}
@@ -13,15 +14,11 @@ cast-result c = search needs
 returns-2 : tie.Need-returns-2
 returns-2 c = simp (lt-leb _ _ (c .before .if1 .left), lt-ltb _ _ (c .if2 .taken)) (omega arith)
 
-cast-result-2 : tie.Need-cast-result-2
-cast-result-2 c = search needs
-
-add-result : tie.Need-add-result
-add-result c = search needs
-
 returns-3 : tie.Need-returns-3
-returns-3 c = simp (lt-leb _ _ (c .before .if1 .left), le-ltb _ _ (c .if2 .left))
+returns-3 c = simp (lt-leb _ _ (c .before .before .if1 .left), le-ltb _ _ (c .before .if2 .left)) (omega arith)
+
+returns-4 : tie.Need-returns-4
+returns-4 c = simp (lt-leb _ _ (c .before .before .if1 .left), le-ltb _ _ (c .before .if2 .left)) (omega arith)
 
 pub fate-byte-spec : {M : Type 1} → statement M
-fate-byte-spec =
-    tie.close (tie.spec returns cast-result returns-2 cast-result-2 add-result returns-3)
+fate-byte-spec = tie.close (tie.spec returns cast-result returns-2 returns-3 returns-4)

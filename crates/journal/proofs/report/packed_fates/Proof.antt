@@ -4,7 +4,8 @@ use native.Mathlib.Nat.{pow-succ'}
 use native.Mathlib.Omega.{arith}
 use mathlib.Core.Path.{_≡_, refl}
 use Rattle.protocol.specs.Format.{countFrom}
-use Rattle.journal.specs.Bytes.{bytesOf, fatesFrom}
+use Rattle.words.specs.Bytes.{bytesOf}
+use Rattle.journal.specs.Bytes.{fatesFrom}
 use Rattle.journal.proofs.Packing.{fates-more, bytes-small}
 use Rattle.journal.proofs.report.packed_fates.Statement.{statement}
 use Rattle.journal.proofs.report.packed_fates.Tie as tie

@@ -1,20 +1,21 @@
+-- `packed_tallies`: the number has the bytes of the report's numbers.
 use borrow.Author.Needs.{needs}
 use native.Mathlib.Omega.{arith}
 use Rattle.journal.proofs.Packing.{packs-tallies}
 use Rattle.journal.proofs.report.packed_tallies.Statement.{statement}
 use Rattle.journal.proofs.report.packed_tallies.Tie as tie
 
-mul-counts : tie.Need-mul-counts
-mul-counts c = search needs
-
-add-counts : tie.Need-add-counts
-add-counts c = search needs
-
 mul-last : tie.Need-mul-last
 mul-last c = search needs
 
 add-last : tie.Need-add-last
 add-last c = search needs
+
+mul-counts : tie.Need-mul-counts
+mul-counts c = search needs
+
+add-counts : tie.Need-add-counts
+add-counts c = search needs
 
 mul-result : tie.Need-mul-result
 mul-result c = search needs
@@ -29,18 +30,11 @@ add-result-2 : tie.Need-add-result-2
 add-result-2 c = search needs
 
 returns : tie.Need-returns
-returns c = packs-tallies _ (c .args .end) (c .args .workers) (c .args .moves) (c .args .rounds) (c .args .records) (omega arith) (omega arith) (omega arith) (omega arith) (omega arith)
+returns c =
+    let start = c .before .before in
+    packs-tallies _ (start .args .end) (start .args .workers) (start .args .c) (omega arith) (omega arith) (omega arith) (start .pre)
 
 pub packed-tallies-spec : {M : Type 1} → statement M
 packed-tallies-spec =
     tie.close
-    (tie.spec
-    mul-counts
-    add-counts
-    mul-last
-    add-last
-    mul-result
-    add-result
-    mul-result-2
-    add-result-2
-    returns)
+    (tie.spec mul-last add-last mul-counts add-counts mul-result add-result mul-result-2 add-result-2 returns)

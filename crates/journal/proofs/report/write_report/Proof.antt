@@ -24,7 +24,7 @@ unfolding reportOf
 returns c =
     let put = c .before .before .before .before .before .before in
     let fates = put .before .before in
-    halves (fates .before .before .before .args .report .now) _ _ (fates .before .before .before .pre) (put .put .ensures) (c .before .before .put2 .ensures) (fates .before .packed-tallies .ensures) (fates .packed-fates .ensures)
+    halves (fates .before .before .before .args .report .now) _ _ (fates .before .before .before .pre .1) (put .put .ensures) (c .before .before .put2 .ensures) (fates .before .packed-tallies .ensures) (fates .packed-fates .ensures)
 
 pub write-report-spec : {M : Type 1} → statement M
 write-report-spec =

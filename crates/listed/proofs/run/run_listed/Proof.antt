@@ -1,10 +1,11 @@
+-- `run_listed`: the turns end the plan.
 use borrow.Author.Needs.{needs}
 use native.Mathlib.Omega.{arith}
 use mathlib.Core.Path.{refl, sym, ap, _∙_}
 use lib.Seq.{length-take-le}
 use Rattle.protocol.specs.Refusals.{Verdict}
 use Rattle.listed.specs.Listed.{turnsBy}
-use Rattle.listed.proofs.Ended.{few-taken, listed}
+use Rattle.listed.proofs.Ended.{few-taken, ran-to-end}
 use Rattle.listed.proofs.run.run_listed.Statement.{statement}
 use Rattle.listed.proofs.run.run_listed.Tie as tie
 
@@ -43,7 +44,7 @@ returns c =
     let wrote = ran .before .before .before .before .before .before .before in
     let lent = wrote .before .before .before .before .before .before .pre in
     let turns = wrote .write-turns .ensures in
-    listed _ _ _ _ _ (ran .tampermauve-run .ensures)
+    ran-to-end _ _ _ _ _ (ran .tampermauve-run .ensures)
     (record {
       zeros = lent .0;
       log = lent .1 .0;

@@ -4,7 +4,7 @@ use Prim.Native.Nat.{ℕ, _-_, _%_, _<_, _≤_}
 use native.Mathlib.Nat.{mod-lt}
 use mathlib.Core.Path.{_≡_}
 use lib.ListN.{length, getD}
-use Rattle.listed.proofs.Turning.{one-more}
+use Rattle.listed.proofs.Turning.{turn-more}
 use Rattle.listed.proofs.turns.fill.Statement.{statement}
 use Rattle.listed.proofs.turns.fill.Tie as tie
 
@@ -35,7 +35,7 @@ loop-less c = search needs
 loop-again : tie.Need-loop-again Inv-loop μ-loop
 loop-again c =
     let at = c .before .loop in
-    (search needs, search needs, one-more (at .turns) (c .before .before .args .n) (at .i) (omega (arith, at .inv, c .loop-test .taken, c .before .before .pre)) (at .inv .2))
+    (search needs, search needs, turn-more (at .turns) (c .before .before .args .n) (at .i) (omega (arith, at .inv, c .loop-test .taken, c .before .before .pre)) (at .inv .2))
 
 same-length : tie.Need-same-length Inv-loop μ-loop
 same-length c = search needs

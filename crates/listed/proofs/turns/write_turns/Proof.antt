@@ -4,7 +4,7 @@ use mathlib.Core.Path.{ap, _∙_, sym}
 use Rattle.protocol.specs.Refusals.{Verdict}
 use Rattle.plan.specs.Answer.{verdictOf}
 use Rattle.listed.specs.Listed.{turnsBy}
-use Rattle.listed.proofs.Turning.{Sized, sized, all-listed}
+use Rattle.listed.proofs.Turning.{Measured, measured, all-listed}
 use Rattle.listed.proofs.turns.write_turns.Statement.{statement}
 use Rattle.listed.proofs.turns.write_turns.Tie as tie
 
@@ -30,8 +30,8 @@ mul-turn-count : tie.Need-mul-turn-count
 mul-turn-count c = search needs
 
 -- what the layout tells
-layout : (c : tie.After-struct-known) → Sized (c .before .before .before .before .before .before .args .file .now) (c .before .before .before .check .result .layout)
-layout c = sized _ _ (c .before .before .before .check .ensures) (ap verdictOf (c .before .enum-told .given .1))
+layout : (c : tie.After-struct-known) → Measured (c .before .before .before .before .before .before .args .file .now) (c .before .before .before .check .result .layout)
+layout c = measured _ _ (c .before .before .before .check .ensures) (ap verdictOf (c .before .enum-told .given .1))
 
 array-read-turn-count : tie.Need-array-read-turn-count
 array-read-turn-count c = omega (arith, layout (c .before) .most)

@@ -3,7 +3,7 @@ use borrow.Author.Needs.{needs}
 use mathlib.Core.Path.{refl}
 use mathlib.Core.List.{append-nil}
 use borrow.Author.Tests.{lt-ltb, le-ltb}
-use Rattle.rules.specs.Codes.{onConditionCode}
+use Rattle.format.specs.Fates.{codeOnCondition}
 use Rattle.rules.proofs.Codes.{code-waits}
 use Rattle.rules.proofs.lists.wait_last.Statement.{statement}
 use Rattle.rules.proofs.lists.wait_last.Tie as tie
@@ -28,11 +28,11 @@ returns-2 c = rw (c .enum-told2 .given .1, append-nil) record { good = c .before
 
 returns-3 : tie.Need-returns-3
 returns-3 c = let k = c .before .before .goes .given .0 .0 in
-    rw (c .before .before .goes .given .1, code-waits k, lt-ltb k onConditionCode (c .if1 .taken), append-nil) record { good = c .before .before .before .before .pre .0; list = refl }
+    rw (c .before .before .goes .given .1, code-waits k, lt-ltb k codeOnCondition (c .if1 .taken), append-nil) record { good = c .before .before .before .before .pre .0; list = refl }
 
 returns-4 : tie.Need-returns-4
 returns-4 c = let k = c .before .before .before .goes .given .0 .0 in
-    rw (c .before .before .before .goes .given .1, code-waits k, le-ltb k onConditionCode (c .before .if1 .left)) (c .push .ensures)
+    rw (c .before .before .before .goes .given .1, code-waits k, le-ltb k codeOnCondition (c .before .if1 .left)) (c .push .ensures)
 
 pub wait-last-spec : {M : Type 1} → statement M
 wait-last-spec =

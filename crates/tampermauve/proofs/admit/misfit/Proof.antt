@@ -1,3 +1,4 @@
+-- `misfit`: what each of the tests tells.
 use native.Mathlib.Omega.{arith}
 use Rattle.tampermauve.proofs.Admitting.{wrong, last-test}
 use Rattle.tampermauve.proofs.admit.misfit.Statement.{statement}

@@ -1,12 +1,8 @@
+-- `write_end_word`: the word that the test leads to.
 use borrow.Author.Needs.{needs}
 use native.Mathlib.Omega.{arith}
-use mathlib.Core.Bool.{Bool, cond}
-use mathlib.Core.Path.{sym, ap}
-use mathlib.Core.List.{[], _∷_, _++_}
 use borrow.Author.Tests.{eq-eqb, ne-eqb}
-use Rattle.protocol.specs.Report.{finished, stuck}
-use Rattle.protocol.specs.Listing.{space, endWord}
-use Rattle.text.proofs.Writing.{wrote-as}
+use Rattle.protocol.specs.Report.{finished, endNumber}
 use Rattle.text.proofs.lines.write_end_word.Statement.{statement}
 use Rattle.text.proofs.lines.write_end_word.Tie as tie
 
@@ -22,7 +18,10 @@ same-length c = search needs
 returns : tie.Need-returns
 returns c =
     let wrote = c .before .before in
-    (wrote-as (wrote .write-bytes .ensures) (ap (λ (b : Bool). endWord (cond b finished stuck) ++ (space ∷ [])) (sym (eq-eqb (wrote .before .before .before .before .before .args .end) 1 (omega (arith, wrote .before .before .before .if1 .taken))))), omega (arith, wrote .write-bytes .ensures .ends))
+    let end = wrote .before .before .before .before .before .args .end in (
+      simp (eq-eqb end (endNumber finished) (omega (arith, wrote .before .before .before .if1 .taken))) (wrote .write-bytes .ensures),
+      omega (arith, wrote .write-bytes .ensures .ends),
+    )
 
 slice-aggregate-write-bytes-2 : tie.Need-slice-aggregate-write-bytes-2
 slice-aggregate-write-bytes-2 c = search needs
@@ -36,7 +35,10 @@ same-length-2 c = search needs
 returns-2 : tie.Need-returns-2
 returns-2 c =
     let wrote = c .before .before in
-    (wrote-as (wrote .write-bytes2 .ensures) (ap (λ (b : Bool). endWord (cond b finished stuck) ++ (space ∷ [])) (sym (ne-eqb (wrote .before .before .before .before .before .args .end) 1 (λ e. omega (arith, e, wrote .before .before .before .if1 .left))))), omega (arith, wrote .write-bytes2 .ensures .ends))
+    let end = wrote .before .before .before .before .before .args .end in (
+      simp (ne-eqb end (endNumber finished) (λ e. omega (arith, e, wrote .before .before .before .if1 .left))) (wrote .write-bytes2 .ensures),
+      omega (arith, wrote .write-bytes2 .ensures .ends),
+    )
 
 pub write-end-word-spec : {M : Type 1} → statement M
 write-end-word-spec =

@@ -3,8 +3,8 @@ use native.Mathlib.Omega.{arith}
 use Prim.Native.Nat.{ℕ, _+_, _-_, _*_, _≤_}
 use mathlib.Core.Path.{_≡_, ap}
 use Rattle.protocol.specs.Listing.{recordLine, logLines}
-use Rattle.text.specs.Text.{entriesFrom}
-use Rattle.text.proofs.Writing.{Left, all-left, left-as, less-left, none-left, left-length}
+use Rattle.text.specs.Text.{recordLineLimit, entriesFrom}
+use Rattle.text.proofs.Writing.{Remains, all-left, left-as, less-left, none-left, left-length}
 use Rattle.text.proofs.Entries.{next-entry}
 use Rattle.text.proofs.lines.write_log.Statement.{statement}
 use Rattle.text.proofs.lines.write_log.Tie as tie
@@ -12,8 +12,8 @@ use Rattle.text.proofs.lines.write_log.Tie as tie
 abbrev Inv-loop : tie.InvT-loop
 Inv-loop log records text₀ at end₀ i₀ text end i =
     (i ≤ records)
-    × (end ≤ at + 22 * i)
-    × Left text₀ at (logLines (entriesFrom log records 0)) text end (logLines (entriesFrom log (records - i) i))
+    × (end ≤ at + recordLineLimit * i)
+    × Remains text₀ at (logLines (entriesFrom log records 0)) text end (logLines (entriesFrom log (records - i) i))
 
 abbrev μ-loop : tie.MeasureT-loop
 μ-loop log records text₀ at end₀ i₀ text end i = records - i

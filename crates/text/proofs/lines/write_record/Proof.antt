@@ -1,31 +1,24 @@
+-- `write_record`: the line of the five numbers that are read.
 use borrow.Author.Needs.{needs}
 use native.Mathlib.Omega.{arith}
 use Prim.Native.Nat.{_≤_}
 use mathlib.Core.List.{[], _∷_}
 use lib.ListN.{length}
 use Rattle.protocol.specs.Listing.{line}
+use Rattle.text.specs.Text.{recordLineLimit}
 use Rattle.text.proofs.Writing.{wrote-as}
 use Rattle.text.proofs.Numbers.{record-length, record-line}
 use Rattle.text.proofs.lines.write_record.Statement.{statement}
 use Rattle.text.proofs.lines.write_record.Tie as tie
 
-add-pair : tie.Need-add-pair
-add-pair c = search needs
+add-word-at : tie.Need-add-word-at
+add-word-at c = search needs
 
-shared-slice-read-pair : tie.Need-shared-slice-read-pair
-shared-slice-read-pair c = search needs
+word-at-requires : tie.Need-word-at-requires
+word-at-requires c κs = search needs
 
-add-pair-2 : tie.Need-add-pair-2
-add-pair-2 c = search needs
-
-shared-slice-read-pair-2 : tie.Need-shared-slice-read-pair-2
-shared-slice-read-pair-2 c = search needs
-
-pair-requires : tie.Need-pair-requires
-pair-requires c κs = search needs
-
-cast-t13 : tie.Need-cast-t13
-cast-t13 c = search needs
+cast-t8 : tie.Need-cast-t8
+cast-t8 c = search needs
 
 add-wide : tie.Need-add-wide
 add-wide c = search needs
@@ -66,16 +59,28 @@ wide-requires-4 c κs = search needs
 slice-aggregate-write-line : tie.Need-slice-aggregate-write-line
 slice-aggregate-write-line c = search needs
 
-few : (c : tie.After-wide4)
-    → length (line (c .before .before .before .before .before .before .before .before .pair .result ∷ c .before .before .before .before .before .before .wide .result ∷ c .before .before .before .before .wide2 .result ∷ c .before .before .wide3 .result ∷ c .wide4 .result ∷ [])) ≤ 22
-few c =
-    record-length _ _ _ _ _ (omega (arith, c .before .before .before .before .before .before .before .before .pair .ok)) (c .before .before .before .before .before .before .wide .ensures .1)
-    (c .before .before .before .before .wide2 .ensures .1)
-    (c .before .before .wide3 .ensures .1)
-    (c .wide4 .ensures .1)
+-- where the numbers are read
+module _ (c : tie.After-wide4) where
+  abbrev number : tie.After-wide3
+  number = c .before .before
+
+  abbrev op : tie.After-wide2
+  op = number .before .before
+
+  abbrev worker : tie.After-wide
+  worker = op .before .before
+
+  abbrev round : tie.After-word-at
+  round = worker .before .before
+
+  few : length (line (round .word-at .result ∷ worker .wide .result ∷ op .wide2 .result ∷ number .wide3 .result ∷ c .wide4 .result ∷ []))
+      ≤ recordLineLimit
+  few =
+      record-length _ _ _ _ _ (omega (arith, round .word-at .ok)) (worker .wide .ensures .1) (op .wide2 .ensures .1) (number .wide3 .ensures .1)
+      (c .wide4 .ensures .1)
 
 write-line-requires : tie.Need-write-line-requires
-write-line-requires c κs = omega (arith, few (c .before .before), c .before .before .before .before .before .before .before .before .before .before .before .before .before .before .before .pre .1)
+write-line-requires c κs = omega (arith, few (c .before .before), round (c .before .before) .before .before .before .pre .1)
 
 same-length : tie.Need-same-length
 same-length c = search needs
@@ -84,20 +89,17 @@ returns : tie.Need-returns
 returns c =
     let wrote = c .before .before in
     let w = wrote .before .before .before in
-    let pair = w .before .before .before .before .before .before .before .before in
-    let same = record-line _ _ _ _ _ _ (pair .pair .ensures) (w .before .before .before .before .before .before .wide .ensures .0) (w .before .before .before .before .wide2 .ensures .0) (w .before .before .wide3 .ensures .0) (w .wide4 .ensures .0) in
+    let same = record-line _ _ _ _ _ _ (round w .word-at .ensures) (worker w .wide .ensures .0) (op w .wide2 .ensures .0)
+    (number w .wide3 .ensures .0) (w .wide4 .ensures .0) in
     (wrote-as (wrote .write-line .ensures) same, omega (arith, few w, wrote .write-line .ensures .ends))
 
 pub write-record-spec : {M : Type 1} → statement M
 write-record-spec =
     tie.close
     (tie.spec
-    add-pair
-    shared-slice-read-pair
-    add-pair-2
-    shared-slice-read-pair-2
-    pair-requires
-    cast-t13
+    add-word-at
+    word-at-requires
+    cast-t8
     add-wide
     shared-slice-read-wide
     wide-requires

@@ -6,8 +6,8 @@ use mathlib.Core.List.{List, _++_, append-nil}
 use lib.ListN.{length, set, drop, replicate, drop-of-length-le}
 use borrow.Author.Fill.{fill-more}
 use borrow.Author.Needs.{needs}
-use Rattle.pages.proofs.clear.Statement.{statement}
-use Rattle.pages.proofs.clear.Tie as tie
+use Rattle.words.proofs.clear.Statement.{statement}
+use Rattle.words.proofs.clear.Tie as tie
 
 abbrev Inv-loop : tie.InvT-loop
 Inv-loop bytes₀ i₀ bytes i = (i ≤ length bytes₀) × (length bytes ≡ length bytes₀) × (bytes ≡ replicate i 0 ++ drop i bytes₀)

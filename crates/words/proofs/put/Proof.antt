@@ -5,9 +5,9 @@ use native.Mathlib.Omega.{arith}
 use mathlib.Core.Path.{_≡_, refl}
 use lib.ListN.{length, length-set}
 use lib.Seq.{sets}
-use Rattle.journal.specs.Bytes.{bytesOf}
-use Rattle.journal.proofs.bytes.put.Statement.{statement}
-use Rattle.journal.proofs.bytes.put.Tie as tie
+use Rattle.words.specs.Bytes.{bytesOf}
+use Rattle.words.proofs.put.Statement.{statement}
+use Rattle.words.proofs.put.Tie as tie
 
 abbrev Inv-loop : tie.InvT-loop
 Inv-loop bytes₀ at n left₀ k₀ bytes left k =

@@ -1,0 +1,2 @@
+-- The codes of fates.
+pub mod Fates
