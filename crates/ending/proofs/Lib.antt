@@ -1,1 +1,2 @@
+-- Whether all workers have left, one worker at a time.
 pub mod Gone

@@ -1,1 +1,2 @@
+-- What the end of a run goes by, takes and leaves.
 pub mod Ending

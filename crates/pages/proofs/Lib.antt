@@ -1,4 +1,6 @@
--- Lists; slots and workers; commits.
+-- A page's worth of a list, after a store and after a copy.
 pub mod Parts
+-- From a slot to a worker's copies.
 pub mod Slots
+-- A commit, byte by byte and page by page.
 pub mod Commits

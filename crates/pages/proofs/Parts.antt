@@ -7,7 +7,8 @@ use mathlib.Core.Path.{_≡_, sym, ap, _∙_, subst}
 use mathlib.Core.Logic.{_⊎_, inl, inr}
 use mathlib.Core.List.{List, _++_, append-assoc}
 use lib.ListN.{length, getD, set, take, drop, length-drop, take-append-drop, List·getD-eq-default}
-use lib.Seq.{take-append-le, drop-append-le, length-take-le, take-at, drop-at, drop-drop, drop-paste, paste, paste-suc, take-set-lt, take-set-le, drop-set-add, drop-set-lt, getD-take, getD-drop, getD-set-same, set-out}
+use lib.Seq.{take-append-le, drop-append-le, length-take-le, take-at, drop-at, drop-drop, drop-paste, paste}
+use lib.Seq.{paste-suc, take-set-lt, take-set-le, drop-set-add, drop-set-lt, getD-take, getD-drop, getD-set-same, set-out}
 use Rattle.protocol.specs.Pages.{pageSize}
 use Rattle.pages.specs.Copies.{part}
 

@@ -21,7 +21,7 @@ use Rattle.plan.specs.Answer.{verdictOf}
 use Rattle.plan.specs.Checking.{LaidOut, CheckedAs}
 use Rattle.plan.specs.declared.check.Checked.{Checked}
 use Rattle.plan.specs.declared.check.Layout.{Layout}
-use Rattle.tampermauve.specs.Run.{unfit, decided, Admits}
+use Rattle.tampermauve.specs.Run.{unfit, answerBy, Admits}
 use Rattle.tampermauve.specs.declared.admit.Lengths.{Lengths}
 use Rattle.tampermauve.specs.declared.admit.Admitted.{Admitted}
 
@@ -61,13 +61,13 @@ stray-step n i turns most m h e =
     ∙ (greater-tells n most (getD turns i 0) m (drop (suc i) turns) e
     ∙ ap (λ (ts : List ℕ). namesNobody n (most ∷ ts)) (sym (drop-cons turns i 0 h)))
 
-pub none-left : (n i : ℕ) (turns : List ℕ) → length turns ≤ i → namesNobody n (drop i turns) ≡ false
+pub no-turn-left : (n i : ℕ) (turns : List ℕ) → length turns ≤ i → namesNobody n (drop i turns) ≡ false
 unfolding namesNobody
-none-left n i turns h = ap (λ (ts : List ℕ). namesNobody n ts) (drop-of-length-le turns {i = i} h)
+no-turn-left n i turns h = ap (λ (ts : List ℕ). namesNobody n ts) (drop-of-length-le turns {i = i} h)
 
 pub stray-end : (n i : ℕ) (turns : List ℕ) (most : ℕ) → length turns ≤ i → namesNobody n (most ∷ drop i turns) ≡ leb n most
 unfolding namesNobody
-stray-end n i turns most h = ap (λ (b : Bool). leb n most || b) (none-left n i turns h) ∙ or-false (leb n most)
+stray-end n i turns most h = ap (λ (b : Bool). leb n most || b) (no-turn-left n i turns h) ∙ or-false (leb n most)
 
 -- the number 0 is no refusal's
 
@@ -82,11 +82,11 @@ first-refused (refused f i) next h = refl
 module _ (file turns : List ℕ) (l : Lengths) where
   -- the answer by what the tests gave
   pub tests : (m t s : Bool) (v : Verdict) → unfit l ≡ m → ltb turnsLimit (length turns) ≡ t → check file ≡ v → namesNobody (workersOf (planOf file)) turns ≡ s
-      → codeOf (verdictBy m t v s) ≡ decided file turns (unfit l)
+      → codeOf (verdictBy m t v s) ≡ answerBy file turns (unfit l)
   tests m t s v em et ev es =
       rw (em, et, ev, es)
 
-  pub refuses : (a : Admitted) (f : Refusal) → a .code ≡ numberOf f → numberOf f ≡ decided file turns (unfit l) → Admits file turns l a
+  pub refuses : (a : Admitted) (f : Refusal) → a .code ≡ numberOf f → numberOf f ≡ answerBy file turns (unfit l) → Admits file turns l a
   refuses a f e d = record { code = e ∙ d; layout = λ z. absurd (omega (arith, e, z, numbered f .0)) }
 
 -- the file is accepted where the code is 0, and the layout's number of workers is its plan's

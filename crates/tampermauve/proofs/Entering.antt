@@ -12,37 +12,37 @@ use Rattle.protocol.specs.Calls.{Buffers, misfit, turnsLimit, namesNobody}
 use Rattle.protocol.specs.WellFormed.{Fitting}
 use Rattle.protocol.proofs.FirstDue.{fitting}
 use Rattle.engine.specs.Turning.{Playing}
-use Rattle.tampermauve.specs.Run.{lengthsOf, decided, Admits}
+use Rattle.tampermauve.specs.Run.{lengthsOf, answerBy, Admits}
 use Rattle.tampermauve.specs.declared.admit.Admitted.{Admitted}
 use Rattle.tampermauve.proofs.Admitting.{plan-workers}
 use Rattle.tampermauve.proofs.Ran.{Cleared, passed}
 
 module _ (file turns : List ℕ) (b : Buffers) (a : Admitted) (h : Admits file turns (lengthsOf b) a) (z : a .code ≡ 0) where
-  pub none-refused : 0 ≡ decided file turns (misfit b)
-  none-refused = sym z ∙ h .code
+  pub answered : 0 ≡ answerBy file turns (misfit b)
+  answered = sym z ∙ h .code
 
   tested : Cleared (misfit b) (ltb turnsLimit (length turns)) (check file) (namesNobody (workersOf (planOf file)) turns)
-  tested = passed file turns b (sym none-refused)
+  tested = passed file turns b (sym answered)
 
-  pub fits : Fitting b
-  fits = fitting b (tested .buffers)
+  pub buffers-fit : Fitting b
+  buffers-fit = fitting b (tested .buffers)
 
-  pub ok : check file ≡ accepted
-  ok = tested .file
+  pub file-ok : check file ≡ accepted
+  file-ok = tested .file
 
   pub workers-right : a .layout .workers ≡ workersOf (planOf file)
-  workers-right = plan-workers file (h .layout z) ok
+  workers-right = plan-workers file (h .layout z) file-ok
 
   pub playing : Playing file (a .layout .workers) (a .layout .sizes) (a .layout .firsts) turns (b .memory) (b .log) (b .work)
   playing =
       record {
         named =
             record {
-              laid = record { ok = ok; sizesRight = h .layout z .sizes; firstsRight = h .layout z .firsts };
+              laid = record { ok = file-ok; sizesRight = h .layout z .sizes; firstsRight = h .layout z .firsts };
               known = tested .known;
               short = ltb-false turnsLimit (length turns) (tested .short);
             };
         workers = workers-right;
-        bytes = record { memoryLength = fits .memory; workLength = fits .work };
-        room = fits .log;
+        bytes = record { memoryLength = buffers-fit .memory; workLength = buffers-fit .work };
+        room = buffers-fit .log;
       }

@@ -39,21 +39,21 @@ module _ (file turns start-memory : List ℕ) (ok : check file ≡ accepted) (p 
   inv : Inv (planOf file) (playedFrom (planOf file) start-memory turns)
   inv = play-inv (planOf file) sound (start (planOf file) start-memory) turns (start-inv (planOf file) start-memory sound)
 
-  fits : Bounded (planOf file) (playedFrom (planOf file) start-memory turns)
-  fits = bounded (planOf file) _ sound inv
+  bounds : Bounded (planOf file) (playedFrom (planOf file) start-memory turns)
+  bounds = bounded (planOf file) _ sound inv
 
-  pub closing : {report : List ℕ} → length report ≡ reportLength → Closing (p .schedule .counts) n log report
-  closing size =
+  pub closes : {report : List ℕ} → length report ≡ reportLength → Closing (p .schedule .counts) n log report
+  closes size =
       let s = o .refines in
       record {
         workers = omega (arith, right, sound .workers);
         counts =
             record {
-              moves = omega (arith, s .moves, fits .movesFit);
-              rounds = omega (arith, s .rounds, fits .movesFit, fits .rounds);
-              records = omega (arith, s .log .count, fits .recordsFit);
+              moves = omega (arith, s .moves, bounds .movesFit);
+              rounds = omega (arith, s .rounds, bounds .movesFit, bounds .rounds);
+              records = omega (arith, s .log .count, bounds .recordsFit);
             };
-        room = omega (arith, s .log .count, s .log .size, fits .recordsFit);
+        room = omega (arith, s .log .count, s .log .size, bounds .recordsFit);
         size = size;
       }
 

@@ -1,5 +1,10 @@
+-- The tests of a run.
 pub mod Admitting
+-- The report from the code's numbers is that of the state that they show.
 pub mod Reported
+-- What a run leaves in the buffers is what the state at its end gives.
 pub mod Left
+-- What the call returns, and demand 3 of what it leaves.
 pub mod Ran
+-- What an admitted run goes in with.
 pub mod Entering

@@ -13,7 +13,7 @@ use Rattle.protocol.specs.Calls.{Buffers, Outcome, buffersOf, misfit, namesNobo
 use Rattle.protocol.specs.Demands.{Demand3Bytes}
 use Rattle.protocol.proofs.Bytes.{demand3-bytes}
 use Rattle.protocol.proofs.Numbered.{numbered}
-use Rattle.tampermauve.specs.Run.{decided, Ran}
+use Rattle.tampermauve.specs.Run.{answerBy, Ran}
 use Rattle.tampermauve.proofs.Admitting.{none-refused}
 
 -- what an answer of 0 says of the tests
@@ -31,10 +31,10 @@ tests-passed false false false accepted e = record { buffers = refl; short = ref
 tests-passed false false s (refused f i) e = absurd (omega (arith, e, numbered f .0))
 
 module _ (file turns : List ℕ) (b : Buffers) where
-  pub passed : decided file turns (misfit b) ≡ 0 → Cleared (misfit b) (ltb turnsLimit (length turns)) (check file) (namesNobody (workersOf (planOf file)) turns)
+  pub passed : answerBy file turns (misfit b) ≡ 0 → Cleared (misfit b) (ltb turnsLimit (length turns)) (check file) (namesNobody (workersOf (planOf file)) turns)
   passed = tests-passed (misfit b) (ltb turnsLimit (length turns)) (namesNobody (workersOf (planOf file)) turns) (check file)
 
-  pub returned-code : run file turns b .returned ≡ decided file turns (misfit b)
+  pub returned-code : run file turns b .returned ≡ answerBy file turns (misfit b)
   unfolding run runVerdict
   returned-code = go (runVerdict file turns b)
     where
@@ -55,7 +55,7 @@ module _ (file turns : List ℕ) (b : Buffers) where
           subst⁻¹ (λ (left : Buffers). Demand3Bytes (planOf file) (b .memory) turns left) (ap (λ (o : Outcome). o .buffers) same)
           (demand3-bytes file turns b (verdict z))
 
-  pub refusal : (r : ℕ) → r ≡ decided file turns (misfit b) → (r ≡ 0 → ⊥) → _≡_ {A = Outcome} (record { returned = r; buffers = b }) (run file turns b)
+  pub refusal : (r : ℕ) → r ≡ answerBy file turns (misfit b) → (r ≡ 0 → ⊥) → _≡_ {A = Outcome} (record { returned = r; buffers = b }) (run file turns b)
   unfolding run runVerdict
   refusal r e h = go (runVerdict file turns b) e
     where
@@ -63,7 +63,7 @@ module _ (file turns : List ℕ) (b : Buffers) where
       go accepted e = absurd (h e)
       go (refused f i) e = ap (λ (k : ℕ). record { returned = k; buffers = b }) e
 
-  pub acceptance : (after : Buffers) → 0 ≡ decided file turns (misfit b) → after ≡ buffersOf (playedFrom (planOf file) (b .memory) turns)
+  pub acceptance : (after : Buffers) → 0 ≡ answerBy file turns (misfit b) → after ≡ buffersOf (playedFrom (planOf file) (b .memory) turns)
       → _≡_ {A = Outcome} (record { returned = 0; buffers = after }) (run file turns b)
   unfolding run runVerdict
   acceptance after z e = go (runVerdict file turns b) (none-refused (runVerdict file turns b) (sym z))

@@ -24,12 +24,12 @@ abbrev pub unfit : Lengths → Bool
 unfit l = misfitBy (l .memory) (l .log) (l .report) (l .work)
 
 -- the number for C, by whether the buffers' lengths are wrong
-abbrev pub decided : List ℕ → List ℕ → Bool → ℕ
-decided file turns buffers =
+abbrev pub answerBy : List ℕ → List ℕ → Bool → ℕ
+answerBy file turns buffers =
     codeOf (verdictBy buffers (ltb turnsLimit (length turns)) (check file) (namesNobody (workersOf (planOf file)) turns))
 
 pub record Admits (file turns : List ℕ) (l : Lengths) (a : Admitted) : Type 0 where
-  pub code : a .code ≡ decided file turns (unfit l)
+  pub code : a .code ≡ answerBy file turns (unfit l)
   pub layout : a .code ≡ 0 → LaidOut file (a .layout)
 
 -- what is returned and left is what the definition gives; and demand 3 of the bytes that an accepted run leaves

@@ -1,5 +1,5 @@
 -- Writing piece by piece: what is written and what is left to write make up the whole. Callers start with `all-left`, go on with
--- `room-left` and `less-left` and end with `none-left`.
+-- `room-left` and `less-left` and end with `all-written`.
 use Prim.Native.Nat.{ℕ, suc, _+_, _≤_}
 use native.Mathlib.Omega.{arith}
 use mathlib.Core.Path.{_≡_, refl, sym, ap, _∙_, subst}
@@ -36,8 +36,8 @@ module _ {before : List ℕ} {at : ℕ} {whole text : List ℕ} {end : ℕ} wher
         ends = omega (arith, wrote .ends, left .ends, length-append a rest);
       }
 
-  pub none-left : Remains before at whole text end [] → Wrote before at whole text end
-  none-left left = record { stands = left .same; ends = omega (arith, left .ends) }
+  pub all-written : Remains before at whole text end [] → Wrote before at whole text end
+  all-written left = record { stands = left .same; ends = omega (arith, left .ends) }
 
   pub left-length : {rest : List ℕ} → Remains before at whole text end rest → length text ≡ length before
   left-length {rest} left = sym (length-sets text end rest) ∙ (ap length (left .same) ∙ length-sets before at whole)
@@ -59,4 +59,4 @@ pub wrote-both : {before : List ℕ} {at : ℕ} {between after : List ℕ} {end 
     → Wrote between end b after next
     → Wrote before at (a ++ b) after next
 wrote-both a b wrote then =
-    none-left (less-left b [] (left-as (less-left a b (all-left _ _ (a ++ b) _ refl) wrote) (sym (append-nil b))) then)
+    all-written (less-left b [] (left-as (less-left a b (all-left _ _ (a ++ b) _ refl) wrote) (sym (append-nil b))) then)

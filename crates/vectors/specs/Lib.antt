@@ -1,1 +1,2 @@
+-- The sum that shows a change of memory.
 pub mod Sum

@@ -1,3 +1,4 @@
+-- `list`: what is printed is the text up to its length.
 use borrow.Author.Needs.{needs}
 use native.Mathlib.Omega.{arith}
 use mathlib.Core.Path.{sym, ap}

@@ -7,8 +7,8 @@ use mathlib.Core.List.{List}
 use Rattle.protocol.specs.Calls.{Buffers}
 use Rattle.tampermauve.specs.Run.{lent}
 use Rattle.tampermauve.proofs.Ran.{ran, refusal, acceptance}
-use Rattle.tampermauve.proofs.Left.{closing, left-same}
-use Rattle.tampermauve.proofs.Entering.{none-refused, fits, ok, workers-right, playing}
+use Rattle.tampermauve.proofs.Left.{closes, left-same}
+use Rattle.tampermauve.proofs.Entering.{answered, buffers-fit, file-ok, workers-right, playing}
 use Rattle.tampermauve.proofs.tampermauve_run.Statement.{statement}
 use Rattle.tampermauve.proofs.tampermauve_run.Tie as tie
 
@@ -61,8 +61,8 @@ close-buffers-requires c κs =
     let a = admitted (at-else p) in
     let h = a .admit .ensures in
     let z = none (at-else p) in
-    closing (file a) (turns a) (given a .memory) (ok (file a) (turns a) (given a) _ h z) (p .play .result) _
-    (workers-right (file a) (turns a) (given a) _ h z) (p .play .ensures) (fits (file a) (turns a) (given a) _ h z .report)
+    closes (file a) (turns a) (given a .memory) (file-ok (file a) (turns a) (given a) _ h z) (p .play .result) _
+    (workers-right (file a) (turns a) (given a) _ h z) (p .play .ensures) (buffers-fit (file a) (turns a) (given a) _ h z .report)
 
 same-length : tie.Need-same-length
 same-length c = search needs
@@ -84,8 +84,8 @@ returns-2 c =
     let h = a .admit .ensures in
     let z = none (at-else p) in
     ran (file a) (turns a) (given a) 0 _
-    (acceptance (file a) (turns a) (given a) _ (none-refused (file a) (turns a) (given a) _ h z)
-    (left-same (file a) (turns a) (given a .memory) (ok (file a) (turns a) (given a) _ h z) (p .play .result) _
+    (acceptance (file a) (turns a) (given a) _ (answered (file a) (turns a) (given a) _ h z)
+    (left-same (file a) (turns a) (given a .memory) (file-ok (file a) (turns a) (given a) _ h z) (p .play .result) _
     (workers-right (file a) (turns a) (given a) _ h z) (p .play .ensures) (closed .close-buffers .ensures)))
 
 pub tampermauve-run-spec : {M : Type 1} → statement M

@@ -6,7 +6,7 @@ use mathlib.Core.Path.{ap}
 use mathlib.Core.List.{[], _∷_, _++_}
 use lib.ListN.{length}
 use Rattle.protocol.specs.Listing.{decimal}
-use Rattle.text.proofs.Writing.{Remains, all-left, room-left, less-left, none-left}
+use Rattle.text.proofs.Writing.{Remains, all-left, room-left, less-left, all-written}
 use Rattle.text.proofs.Digits.{last-digit, more-digits}
 use borrow.Fn.Kinds.{In}
 use borrow.Fn.PlainCycle.{Measures, is, falls, and}
@@ -75,11 +75,15 @@ write-decimal-returns t c = rw (last-digit _ (c .before .before .before .before 
 
 -- the digits of a number with several, all and the last alone
 whole : (t : ℕ) (c : write-decimal-lts.Else1 (write-byte-reads.Asked, write-byte-reads.Learnt, write-decimal-below t, write-decimal.Post) (write-decimal-at t) write-decimal.Post)
-    → Remains (c .before .before .args .text .now) (c .before .before .args .at) (decimal (c .before .before .args .n)) (c .before .before .args .text .now) (c .before .before .args .at) (decimal (c .before .before .args .n / 10) ++ ((48 + c .before .before .args .n % 10) ∷ []))
+    → Remains (c .before .before .args .text .now) (c .before .before .args .at) (decimal (c .before .before .args .n))
+    (c .before .before .args .text .now) (c .before .before .args .at)
+    (decimal (c .before .before .args .n / 10) ++ ((48 + c .before .before .args .n % 10) ∷ []))
 whole t c = all-left _ _ _ _ (more-digits _ (c .if1 .left))
 
 last : (t : ℕ) (c : write-decimal-lts.After-write-decimal (write-byte-reads.Asked, write-byte-reads.Learnt, write-decimal-below t, write-decimal.Post) (write-decimal-at t) write-decimal.Post)
-    → Remains (c .before .before .before .before .args .text .now) (c .before .before .before .before .args .at) (decimal (c .before .before .before .before .args .n)) (c .write-decimal .last .1 .0) (c .write-decimal .result) ((48 + c .before .before .before .before .args .n % 10) ∷ [])
+    → Remains (c .before .before .before .before .args .text .now) (c .before .before .before .before .args .at)
+    (decimal (c .before .before .before .before .args .n)) (c .write-decimal .last .1 .0) (c .write-decimal .result)
+    ((48 + c .before .before .before .before .args .n % 10) ∷ [])
 last t c = less-left _ _ (whole t (c .before .before)) (c .write-decimal .ensures)
 
 write-decimal-write-decimal-requires : (t : ℕ) → write-decimal-lts.Need-write-decimal-requires (
@@ -115,7 +119,7 @@ write-decimal-returns-2 : (t : ℕ) → write-decimal-lts.Need-returns-2 (
   write-decimal-below t,
   write-decimal.Post,
 ) (write-decimal-at t) write-decimal.Post
-write-decimal-returns-2 t c = none-left (less-left (_ ∷ []) [] (last t (c .before .before .before .before .before .before)) (c .before .before .write-byte2 .ensures))
+write-decimal-returns-2 t c = all-written (less-left (_ ∷ []) [] (last t (c .before .before .before .before .before .before)) (c .before .before .write-byte2 .ensures))
 
 pub +write-decimal-spec : {M : Type 1} → statement M
 +write-decimal-spec = close μ-write-decimal λ t. write-decimal-lts.spec (

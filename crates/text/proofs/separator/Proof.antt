@@ -1,3 +1,4 @@
+-- `separator`: by whether a number is left.
 use mathlib.Core.Path.{sym, ap}
 use lib.ListN.{drop-of-length-le}
 use lib.Seq.{drop-cons}

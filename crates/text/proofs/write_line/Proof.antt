@@ -1,10 +1,11 @@
+-- `write_line`: number by number; what remains is written behind what is.
 use borrow.Author.Needs.{needs}
-use Prim.Native.Nat.{_+_, _-_}
+use Prim.Native.Nat.{ℕ, _+_, _-_}
 use mathlib.Core.Path.{refl, ap}
-use mathlib.Core.List.{[], _∷_}
+use mathlib.Core.List.{List, [], _∷_}
 use lib.ListN.{length, drop, drop-of-length-le}
 use Rattle.protocol.specs.Listing.{decimal, line}
-use Rattle.text.proofs.Writing.{Remains, all-left, left-as, room-left, less-left, none-left, left-length}
+use Rattle.text.proofs.Writing.{Remains, all-left, left-as, room-left, less-left, all-written, left-length}
 use Rattle.text.proofs.Numbers.{number-left, separator-left}
 use Rattle.text.proofs.write_line.Statement.{statement}
 use Rattle.text.proofs.write_line.Tie as tie
@@ -30,12 +31,25 @@ write-decimal-requires c κs =
     room-left (decimal _) _ (number-left _ _ (turn .before .loop .inv) (turn .loop-test .taken)) (turn .before .before .before .before .pre)
 
 -- what stands behind the number, and the line's rest
-left : (c : tie.After-separator Inv-loop μ-loop)
-    → Remains (c .before .before .before .before .before .before .before .before .before .before .args .text .now) (c .before .before .before .before .before .before .before .before .before .before .args .at) (line (c .before .before .before .before .before .before .before .before .before .before .args .numbers .now)) (c .before .before .before .write-decimal .last .1 .0) (c .before .before .before .write-decimal .result) (c .separator .result ∷ line (drop (c .before .before .before .before .before .before .before .loop .next + 1) (c .before .before .before .before .before .before .before .before .before .before .args .numbers .now)))
-left c =
-    let wrote = c .before .before .before in
-    let turn = wrote .before .before .before in
-    separator-left (turn .before .before .before .before .args .numbers .now) (turn .before .loop .next) _ (less-left (decimal _) _ (number-left _ _ (turn .before .loop .inv) (turn .loop-test .taken)) (wrote .write-decimal .ensures)) (c .separator .ensures)
+module _ (c : tie.After-separator Inv-loop μ-loop) where
+  abbrev wrote : tie.After-write-decimal Inv-loop μ-loop
+  wrote = c .before .before .before
+
+  abbrev turn : tie.In-loop Inv-loop μ-loop
+  turn = wrote .before .before .before
+
+  abbrev start : tie.Start Inv-loop μ-loop
+  start = turn .before .before .before .before
+
+  abbrev numbers : List ℕ
+  numbers = start .args .numbers .now
+
+  left : Remains (start .args .text .now) (start .args .at) (line numbers) (wrote .write-decimal .last .1 .0) (wrote .write-decimal .result)
+      (c .separator .result ∷ line (drop (turn .before .loop .next + 1) numbers))
+  left =
+      separator-left numbers (turn .before .loop .next) _
+      (less-left (decimal _) _ (number-left _ _ (turn .before .loop .inv) (turn .loop-test .taken)) (wrote .write-decimal .ensures))
+      (c .separator .ensures)
 
 add-next : tie.Need-add-next Inv-loop μ-loop
 add-next c = search needs
@@ -44,7 +58,7 @@ separator-requires : tie.Need-separator-requires Inv-loop μ-loop
 separator-requires c κs = search needs
 
 write-byte-requires : tie.Need-write-byte-requires Inv-loop μ-loop
-write-byte-requires c κs = room-left (_ ∷ []) _ (left (c .before)) (c .before .before .before .before .before .before .before .before .before .before .before .pre)
+write-byte-requires c κs = room-left (_ ∷ []) _ (left (c .before)) (start (c .before) .pre)
 
 loop-less : tie.Need-loop-less Inv-loop μ-loop
 loop-less c = search needs
@@ -57,7 +71,7 @@ same-length c = left-length (c .before .loop .inv)
 
 returns : tie.Need-returns Inv-loop μ-loop
 unfolding line
-returns c = none-left (left-as (c .before .loop .inv) (ap line (drop-of-length-le _ (c .loop-test .left))))
+returns c = all-written (left-as (c .before .loop .inv) (ap line (drop-of-length-le _ (c .loop-test .left))))
 
 pub write-line-spec : {M : Type 1} → statement M
 write-line-spec =

@@ -1,3 +1,4 @@
+-- `list_all`: the count goes up and does not wrap.
 use borrow.Author.Needs.{needs}
 use Prim.Native.Nat.{_-_}
 use Rattle.vectors.proofs.list_all.Statement.{statement}

@@ -1,3 +1,4 @@
+-- `list_next`: a length of two bytes is within the room.
 use borrow.Author.Needs.{needs}
 use mathlib.Core.Path.{sym}
 use lib.Seq.{length-take-le}

@@ -1,3 +1,4 @@
+-- `print_line`: the room is enough for the word and the number.
 use borrow.Author.Needs.{needs}
 use native.Mathlib.Omega.{arith}
 use Prim.Native.Nat.{_+_, _≤_}
@@ -25,7 +26,9 @@ slice-aggregate-write-line-2 c = search needs
 
 room : (c : tie.After-write-bytes) → c .write-bytes .result + length (line (c .before .before .before .args .number ∷ [])) ≤ length (c .write-bytes .last .1 .0)
 room c =
-    omega (arith, c .before .before .before .pre, c .write-bytes .ensures .ends, wrote-length (c .write-bytes .ensures), number-length (c .before .before .before .args .number) (omega (arith, c .before .before .before .fits .number)))
+    let start = c .before .before .before in
+    let short = number-length (start .args .number) (omega (arith, start .fits .number)) in
+    omega (arith, start .pre, c .write-bytes .ensures .ends, wrote-length (c .write-bytes .ensures), short)
 
 write-line-requires : tie.Need-write-line-requires
 write-line-requires c κs = room (c .before .before .before)

@@ -1,3 +1,4 @@
+-- `clear_behind`: zeros from the end of the records on.
 use borrow.Author.Needs.{needs}
 use Prim.Native.Nat.{ℕ, _-_, _*_}
 use mathlib.Core.Path.{ap, _∙_}

@@ -1,3 +1,4 @@
+-- `packed`: the number has the record's bytes.
 use borrow.Author.Needs.{needs}
 use native.Mathlib.Omega.{arith}
 use Rattle.journal.proofs.Packing.{packs}

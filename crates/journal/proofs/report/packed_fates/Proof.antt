@@ -1,3 +1,4 @@
+-- `packed_fates`: after each turn of the loop the number has the bytes of the fates from w on.
 use borrow.Author.Needs.{needs}
 use Prim.Native.Nat.{suc, _-_, _^_, _<_, _≤_}
 use native.Mathlib.Nat.{pow-succ'}

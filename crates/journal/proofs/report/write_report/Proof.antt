@@ -1,3 +1,4 @@
+-- `write_report`: sixteen bytes, eight and eight.
 use borrow.Author.Needs.{needs}
 use Rattle.journal.specs.Bytes.{reportOf}
 use Rattle.journal.proofs.Packing.{halves}
@@ -24,7 +25,9 @@ unfolding reportOf
 returns c =
     let put = c .before .before .before .before .before .before in
     let fates = put .before .before in
-    halves (fates .before .before .before .args .report .now) _ _ (fates .before .before .before .pre .1) (put .put .ensures) (c .before .before .put2 .ensures) (fates .before .packed-tallies .ensures) (fates .packed-fates .ensures)
+    let start = fates .before .before .before in
+    halves (start .args .report .now) _ _ (start .pre .1) (put .put .ensures) (c .before .before .put2 .ensures)
+    (fates .before .packed-tallies .ensures) (fates .packed-fates .ensures)
 
 pub write-report-spec : {M : Type 1} → statement M
 write-report-spec =

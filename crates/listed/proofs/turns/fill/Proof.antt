@@ -1,3 +1,4 @@
+-- `fill`: after i turns of the loop the first i turns are written.
 use native.Mathlib.Omega.{arith}
 use borrow.Author.Needs.{needs}
 use Prim.Native.Nat.{ℕ, _-_, _%_, _<_, _≤_}

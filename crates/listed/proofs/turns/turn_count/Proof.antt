@@ -1,3 +1,4 @@
+-- `turn_count`: few enough, so that no product wraps.
 use borrow.Author.Needs.{needs}
 use native.Mathlib.Omega.{arith}
 use mathlib.Core.Path.{refl}

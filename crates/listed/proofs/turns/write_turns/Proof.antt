@@ -1,3 +1,4 @@
+-- `write_turns`: the layout tells how many turns there are, and they are the listing's.
 use borrow.Author.Needs.{needs}
 use native.Mathlib.Omega.{arith}
 use mathlib.Core.Path.{ap, _∙_, sym}

@@ -1,3 +1,4 @@
+-- `admit`: the answer by what each test gave.
 use borrow.Author.Needs.{needs}
 use mathlib.Core.Bool.{Bool, true, false}
 use mathlib.Core.List.{List}
@@ -8,7 +9,7 @@ use Rattle.protocol.specs.Refusals.{Verdict, accepted, badBuffer, tooManyTurns,
 use Rattle.protocol.specs.Turns.{workersOf}
 use Rattle.protocol.specs.Calls.{namesNobody, verdictBy}
 use Rattle.protocol.proofs.Accepted.{check-index}
-use Rattle.tampermauve.specs.Run.{unfit, decided}
+use Rattle.tampermauve.specs.Run.{unfit, answerBy}
 use Rattle.tampermauve.specs.declared.admit.Lengths.{Lengths}
 use Rattle.tampermauve.proofs.Admitting.{first-refused, tests, refuses, good, stray-same}
 use Rattle.tampermauve.proofs.admit.admit.Statement.{statement}
@@ -55,7 +56,7 @@ module _ (c : tie.Else2) where
   asked = c .before .before
 
   decides : (v : Verdict) (s : Bool) → check (file asked) ≡ v → namesNobody (workersOf (planOf (file asked))) (turns asked) ≡ s
-      → codeOf (verdictBy false false v s) ≡ decided (file asked) (turns asked) (unfit (lent asked))
+      → codeOf (verdictBy false false v s) ≡ answerBy (file asked) (turns asked) (unfit (lent asked))
   decides v s =
       tests (file asked) (turns asked) (lent asked) false false s v (sym (asked .misfit .ensures) ∙ c .before .if1 .left) (c .if2 .left)
 
@@ -85,7 +86,7 @@ module _ (c : tie.After-names-nobody) where
   ok : check (file run) ≡ accepted
   ok = good (file run) (checked .check .ensures) (c .before .before .code .ensures) (c .before .if3 .left)
 
-  decide : (s : Bool) → c .names-nobody .result ≡ s → codeOf (verdictBy false false accepted s) ≡ decided (file run) (turns run) (unfit (lent run))
+  decide : (s : Bool) → c .names-nobody .result ≡ s → codeOf (verdictBy false false accepted s) ≡ answerBy (file run) (turns run) (unfit (lent run))
   decide s e =
       decides (checked .before) accepted s ok
       (stray-same (file run) (turns run) (checked .check .ensures) ok ∙ (sym (c .names-nobody .ensures) ∙ e))

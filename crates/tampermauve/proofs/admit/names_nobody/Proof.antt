@@ -1,3 +1,4 @@
+-- `names_nobody`: the greatest turn so far, and what is left, tell what all do.
 use native.Mathlib.Omega.{arith}
 use borrow.Author.Needs.{needs}
 use Prim.Native.Nat.{_-_, _≤_}
@@ -6,7 +7,7 @@ use mathlib.Core.Path.{_≡_, sym, _∙_}
 use mathlib.Core.List.{_∷_}
 use lib.ListN.{length, drop}
 use Rattle.protocol.specs.Calls.{namesNobody}
-use Rattle.tampermauve.proofs.Admitting.{stray-start, stray-step, none-left, stray-end}
+use Rattle.tampermauve.proofs.Admitting.{stray-start, stray-step, no-turn-left, stray-end}
 use Rattle.tampermauve.proofs.admit.names_nobody.Statement.{statement}
 use Rattle.tampermauve.proofs.admit.names_nobody.Tie as tie
 
@@ -17,7 +18,7 @@ abbrev μ-loop : tie.MeasureT-loop
 μ-loop turns n most₀ i₀ most i = length turns - i
 
 returns : tie.Need-returns Inv-loop μ-loop
-returns c = sym (none-left _ 0 (c .before .args .turns .now) (omega arith))
+returns c = sym (no-turn-left _ 0 (c .before .args .turns .now) (omega arith))
 
 loop-holds : tie.Need-loop-holds Inv-loop μ-loop
 loop-holds c = (omega arith, stray-start _ _ (c .if1 .left))

@@ -1,10 +1,11 @@
+-- `write_log`: record by record; what remains is written behind what is.
 use borrow.Author.Needs.{needs}
 use native.Mathlib.Omega.{arith}
 use Prim.Native.Nat.{ℕ, _+_, _-_, _*_, _≤_}
 use mathlib.Core.Path.{_≡_, ap}
 use Rattle.protocol.specs.Listing.{recordLine, logLines}
 use Rattle.text.specs.Text.{recordLineLimit, entriesFrom}
-use Rattle.text.proofs.Writing.{Remains, all-left, left-as, less-left, none-left, left-length}
+use Rattle.text.proofs.Writing.{Remains, all-left, left-as, less-left, all-written, left-length}
 use Rattle.text.proofs.Entries.{next-entry}
 use Rattle.text.proofs.lines.write_log.Statement.{statement}
 use Rattle.text.proofs.lines.write_log.Tie as tie
@@ -60,7 +61,7 @@ returns c =
     let at = c .before .loop in
     let entry = c .before .before .before .before in
     let none : entry .args .records - at .i ≡ 0 = omega (arith, c .loop-test .left) in (
-      none-left (left-as (at .inv .2) (ap (λ (k : ℕ). logLines (entriesFrom (entry .args .log .now) k (at .i))) none)),
+      all-written (left-as (at .inv .2) (ap (λ (k : ℕ). logLines (entriesFrom (entry .args .log .now) k (at .i))) none)),
       omega (arith, at .inv .0, at .inv .1),
     )
 

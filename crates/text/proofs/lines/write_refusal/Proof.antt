@@ -1,3 +1,4 @@
+-- `write_refusal`: the word, and the line of refusal and index.
 use borrow.Author.Needs.{needs}
 use native.Mathlib.Omega.{arith}
 use Prim.Native.Nat.{_/_, _%_, _≤_}

@@ -1,3 +1,4 @@
+-- `memory_sum`: the sum over the addresses passed, which does not wrap.
 use borrow.Author.Needs.{needs}
 use native.Mathlib.Nat.{mul-le-mul}
 use native.Mathlib.Omega.{arith}
