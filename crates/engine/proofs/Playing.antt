@@ -20,6 +20,7 @@ use Rattle.protocol.proofs.Counting.{member-some, occurs-above}
 use Rattle.protocol.proofs.Invariant.{Inv}
 use Rattle.protocol.proofs.Laws.{start-inv}
 use Rattle.protocol.proofs.Sound.{Sound}
+use Rattle.protocol.proofs.Covered.{any-none}
 use Rattle.queue.specs.List.{Below}
 use Rattle.pages.specs.Copies.{Sizes}
 use Rattle.worker.specs.declared.Worker.{Worker}
@@ -56,20 +57,9 @@ after-pass plan memory turns i h e =
     after-one plan memory turns i h
     ∙ ap (λ (b : Bool). cond b (move plan (after plan memory turns i) (getD turns i 0)) (after plan memory turns i)) e
 
--- no turn namesNobody: each names a worker below n
+-- no turn names nobody: each names a worker below n
 pub turn-below : (n : ℕ) (turns : List ℕ) (i : ℕ) → namesNobody n turns ≡ false → i < length turns → getD turns i 0 < n
-unfolding namesNobody
-turn-below n [] i e h = absurd (omega arith)
-turn-below n (w ∷ ws) zero e h = leb-false n w (left (leb n w) e)
-  where
-    left : (b : Bool) → (b || namesNobody n ws) ≡ false → b ≡ false
-    left true q = q
-    left false q = refl
-turn-below n (w ∷ ws) (suc i) e h = turn-below n ws i (right (leb n w) e) (omega arith)
-  where
-    right : (b : Bool) → (b || namesNobody n ws) ≡ false → namesNobody n ws ≡ false
-    right true q = absurd (let z : _≡_ {A = ℕ} 0 1 = cc in omega arith)
-    right false q = q
+turn-below n turns i e h = leb-false n (getD turns i 0) (any-none (λ w. leb n w) turns 0 e i h)
 
 -- the first round's list
 pub up-to-below : {n : ℕ} {workers : List ℕ} → n ≤ 8 → workers ≡ upTo n → Below 8 workers

@@ -1,3 +1,4 @@
-// The numbers of the plan file's format, each under the name that it has in the definitions and in the header.
+// The plan file's format: its numbers, each under the name that it has in the definitions and in the header, and the table of operand ranges.
 pub mod limits;
 pub mod ops;
+pub mod table;

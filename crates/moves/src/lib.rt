@@ -1,8 +1,8 @@
 // A worker's next step, and its own steps on the lent bytes.
+use format::limits::RECORD_LENGTH;
 use pages::load;
 use pages::store;
 use plan::decode::Record;
-use plan::decode::WIDTH;
 use plan::decode::body;
 use worker::Outcome;
 use worker::Worker;
@@ -19,7 +19,7 @@ pub fn fetch(file: &[u8], first: usize, end: usize, place: usize) -> Record
 {
     let at = first + place;
     if at < end {
-        return body(file, WIDTH * at);
+        return body(file, RECORD_LENGTH * at);
     }
     Record {
         worker: 0,

@@ -1,0 +1,2 @@
+-- The code's rows as the table has them, and where an op's row stands.
+pub mod Table
