@@ -1,9 +1,9 @@
 -- A list of turns, one after another.
-use Prim.Native.Nat.{ℕ, zero, suc, _+_, _<_, _≤_}
+use Prim.Native.Nat.{ℕ, _+_, _<_, _≤_}
 use native.Mathlib.Numerals.{add-one}
 use native.Mathlib.Decide.{decLt}
 use native.Mathlib.Omega.{arith}
-use mathlib.Core.Bool.{Bool, true, false, cond, _||_}
+use mathlib.Core.Bool.{Bool, true, false, cond}
 use mathlib.Core.Path.{_≡_, refl, sym, ap, _∙_, subst⁻¹}
 use mathlib.Core.List.{List, [], _∷_, _++_}
 use lib.Dec.{leb}
@@ -19,6 +19,7 @@ use Rattle.protocol.proofs.Bounds.{play-inv}
 use Rattle.protocol.proofs.Counting.{member-some, occurs-above}
 use Rattle.protocol.proofs.Laws.{start-inv}
 use Rattle.protocol.proofs.Sound.{Sound}
+use Rattle.protocol.proofs.Covered.{any-none}
 use Rattle.queue.specs.List.{Below}
 use Rattle.engine.specs.declared.state.Schedule.{Schedule}
 use Rattle.engine.specs.Kept.{Kept}
@@ -56,18 +57,7 @@ after-pass plan memory turns i h e =
 
 -- where no turn names nobody, each names a worker below n
 pub turn-below : (n : ℕ) (turns : List ℕ) (i : ℕ) → namesNobody n turns ≡ false → i < length turns → getD turns i 0 < n
-unfolding namesNobody
-turn-below n [] i e h = absurd (omega arith)
-turn-below n (w ∷ ws) zero e h = leb-false n w (left (leb n w) e)
-  where
-    left : (b : Bool) → (b || namesNobody n ws) ≡ false → b ≡ false
-    left true q = q
-    left false q = refl
-turn-below n (w ∷ ws) (suc i) e h = turn-below n ws i (right (leb n w) e) (omega arith)
-  where
-    right : (b : Bool) → (b || namesNobody n ws) ≡ false → namesNobody n ws ≡ false
-    right true q = absurd (let z : _≡_ {A = ℕ} 0 1 = cc in omega arith)
-    right false q = q
+turn-below n turns i e h = leb-false n (getD turns i 0) (any-none (λ w. leb n w) turns 0 e i h)
 
 -- the first round's list
 pub up-to-below : {n : ℕ} {workers : List ℕ} → n ≤ workersLimit → workers ≡ upTo n → Below workersLimit workers

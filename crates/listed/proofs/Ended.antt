@@ -8,7 +8,7 @@ use borrow.Author.Tests.{eq-eqb, lt-leb, le-ltb}
 use lib.Dec.{ltb}
 use lib.ListN.{length, getD, take, replicate, length-take, length-replicate}
 use Rattle.protocol.specs.Format.{upTo, countFrom, planOf}
-use Rattle.protocol.specs.Refusals.{Verdict, accepted, refused, codeOf, check}
+use Rattle.protocol.specs.Refusals.{Verdict, accepted, refused, codeOf, check, anyOf}
 use Rattle.protocol.specs.Turns.{workersOf}
 use Rattle.protocol.specs.Report.{underWay, endNumber}
 use Rattle.protocol.specs.RoundRun.{moveLimit, roundRun}
@@ -36,13 +36,13 @@ whole-cycles n (suc k) = cycle (upTo n) _ (whole n) (whole-cycles n k) refl
 -- ---- they name workers below n alone
 
 up-names : (n k i : ℕ) (rest : List ℕ) → i + k ≤ n → namesNobody n (countFrom k i ++ rest) ≡ namesNobody n rest
-unfolding namesNobody countFrom
+unfolding anyOf countFrom
 up-names n zero i rest h = refl
 up-names n (suc k) i rest h =
     ap (λ (b : Bool). b || namesNobody n (countFrom k (suc i) ++ rest)) (lt-leb n i (omega arith)) ∙ up-names n k (suc i) rest (omega arith)
 
 cycles-name : (n k : ℕ) → namesNobody n (cycles n k) ≡ false
-unfolding cycles namesNobody
+unfolding cycles anyOf
 cycles-name n zero = refl
 cycles-name n (suc k) = up-names n n 0 (cycles n k) (omega arith) ∙ cycles-name n k
 

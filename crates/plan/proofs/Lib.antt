@@ -1,4 +1,3 @@
-pub mod Ranges
 pub mod Decoding
 pub mod Readings
 pub mod Limited

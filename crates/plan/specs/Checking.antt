@@ -1,30 +1,24 @@
 -- What the check of a file answers.
-use Prim.Native.Nat.{ℕ, _%_, _<_}
+use Prim.Native.Nat.{ℕ, _+_, _<_}
 use mathlib.Core.Bool.{Bool, not, _||_}
 use mathlib.Core.Path.{_≡_}
 use mathlib.Core.List.{List}
 use lib.Dec.{ltb, eqb}
 use lib.ListN.{length, getD}
-use Rattle.protocol.specs.Format.{records, workersIn, sizeIn, firstIn}
+use Rattle.protocol.specs.Format.{barrierCount, workersLimit, records, workersIn, sizeIn, firstIn}
 use Rattle.protocol.specs.Refusals as protocol
 use Rattle.plan.specs.Answer.{verdictOf}
 use Rattle.plan.specs.declared.check.Checked.{Checked}
 use Rattle.plan.specs.declared.check.Layout.{Layout}
 use Rattle.plan.specs.declared.decode.Record.{Record}
 
-abbrev pub refusesLength : ℕ → Bool
-refusesLength bytes = eqb bytes 0 || not (eqb (bytes % 7) 0) || ltb 7231 bytes
-
-abbrev pub refusesPlan : Record → Bool
-refusesPlan r = not (eqb (r .op) 0) || (ltb (r .worker) 1 || ltb 8 (r .worker)) || not (eqb (r .register) 0) || not (eqb (r .number) 0)
-
 -- the layout of a file's records
 pub record LaidOut (file : List ℕ) (l : Layout) : Type 0 where
   pub workers : l .workers ≡ workersIn (records file)
-  pub eight : length (l .sizes) ≡ 8
-  pub sizes : (b : ℕ) → b < 8 → getD (l .sizes) b 0 ≡ sizeIn (records file) b
-  pub nine : length (l .firsts) ≡ 9
-  pub firsts : (w : ℕ) → w < 9 → getD (l .firsts) w 0 ≡ firstIn (records file) w
+  pub eight : length (l .sizes) ≡ barrierCount
+  pub sizes : (b : ℕ) → b < barrierCount → getD (l .sizes) b 0 ≡ sizeIn (records file) b
+  pub nine : length (l .firsts) ≡ workersLimit + 1
+  pub firsts : (w : ℕ) → w < workersLimit + 1 → getD (l .firsts) w 0 ≡ firstIn (records file) w
 
 -- the verdict is the definition's; the layout of an accepted file is that of its records
 pub record CheckedAs (file : List ℕ) (r : Checked) : Type 0 where

@@ -20,7 +20,7 @@ pub enum Refusal {
 }
 
 // What one rule says: the reading goes on, or it ends with a refusal.
-pub enum Ruling {
+pub enum Rule {
     Holds,
     Refuses(Refusal),
 }

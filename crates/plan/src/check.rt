@@ -7,14 +7,21 @@ use crate::decode::Record;
 use crate::decode::decode;
 use crate::skips::check_skips;
 use crate::steps::read_steps;
+use format::limits::BARRIER_COUNT;
+use format::limits::FILE_LIMIT;
+use format::limits::RECORD_LENGTH;
+use format::limits::WORKERS_LIMIT;
+use format::ops;
 ghost use mathlib.Core.Path.{_≡_};
-ghost use Rattle.plan.specs.Checking.{refusesLength, refusesPlan, CheckedAs};
+ghost use Rattle.protocol.specs.Refusals.{wrongLength, wrongPlan};
+ghost use Rattle.plan.specs.Answer.{recordOf};
+ghost use Rattle.plan.specs.Checking.{CheckedAs};
 
 // What a run needs of an accepted file: the number of workers, the barriers' sizes, and where each worker's steps begin.
 pub struct Layout {
     pub workers: u8,
-    pub sizes: [u8; 8],
-    pub firsts: [usize; 9],
+    pub sizes: [u8; BARRIER_COUNT],
+    pub firsts: [usize; WORKERS_LIMIT + 1],
 }
 
 pub struct Checked {
@@ -23,27 +30,27 @@ pub struct Checked {
 }
 
 fn bad_length(bytes: usize) -> bool
-    ensures { λ b. ⌜ b ≡ refusesLength bytes ⌝ }
+    ensures { λ b. ⌜ b ≡ wrongLength bytes ⌝ }
 {
     if bytes == 0 {
         return true;
     }
-    if bytes % 7 != 0 {
+    if bytes % RECORD_LENGTH != 0 {
         return true;
     }
-    7231 < bytes
+    FILE_LIMIT < bytes
 }
 
 fn bad_plan(r: Record) -> bool
-    ensures { λ b. ⌜ b ≡ refusesPlan r ⌝ }
+    ensures { λ b. ⌜ b ≡ wrongPlan (recordOf r) ⌝ }
 {
-    if r.op != 0 {
+    if r.op != ops::PLAN_RECORD {
         return true;
     }
     if r.worker < 1 {
         return true;
     }
-    if 8 < r.worker {
+    if WORKERS_LIMIT < r.worker as usize {
         return true;
     }
     if r.register != 0 {
@@ -59,8 +66,8 @@ fn refused(f: Refusal, i: usize) -> Checked
         verdict: Verdict::Refused(f, i),
         layout: Layout {
             workers: 0,
-            sizes: [0u8; 8],
-            firsts: [0usize; 9],
+            sizes: [0u8; BARRIER_COUNT],
+            firsts: [0usize; WORKERS_LIMIT + 1],
         },
     }
 }
@@ -73,7 +80,7 @@ pub fn check(file: &[u8]) -> Checked
     if bad_length(bytes) {
         return refused(Refusal::BadLength, 0);
     }
-    let count = bytes / 7;
+    let count = bytes / RECORD_LENGTH;
     let Decoded::Read(first) = decode(file, 0) else {
         return refused(Refusal::BadMark, 0);
     };
@@ -86,7 +93,7 @@ pub fn check(file: &[u8]) -> Checked
         return refused(f, i);
     }
     let sizes = barriers.sizes;
-    let mut firsts = [0usize; 9];
+    let mut firsts = [0usize; WORKERS_LIMIT + 1];
     let verdict = read_steps(
         file,
         count,

@@ -1,8 +1,9 @@
 // A record of the file.
+use format::limits::PLAN_MARK;
 ghost use mathlib.Core.Path.{_≡_};
 ghost use Prim.Native.Nat.{_+_, _*_, _≤_};
 ghost use lib.ListN.{length};
-ghost use Rattle.protocol.specs.Format.{word, recordFrom};
+ghost use Rattle.protocol.specs.Format.{word, recordLength, recordFrom};
 ghost use Rattle.plan.specs.Answer.{bodyOf, decodedOf};
 
 pub struct Record {
@@ -17,11 +18,6 @@ pub enum Decoded {
     Unmarked,
 }
 
-// The mark 4D 50 as one number.
-const MARK: u16 = 0x504D;
-
-pub const WIDTH: usize = 7;
-
 // Two bytes as a number, low byte first.
 pub fn pair(low: u8, high: u8) -> u16
     ensures { λ r. ⌜ r ≡ word low high ⌝ }
@@ -31,7 +27,7 @@ pub fn pair(low: u8, high: u8) -> u16
 
 // What stands behind the mark of the record whose first byte is at a position.
 pub fn body(file: &[u8], at: usize) -> Record
-    requires { ⌜ at + 7 ≤ length (now file) ⌝ }
+    requires { ⌜ at + recordLength ≤ length (now file) ⌝ }
     ensures { λ r. ⌜ r ≡ bodyOf (recordFrom (now (file .entry)) at) ⌝ }
 {
     Record {
@@ -44,10 +40,10 @@ pub fn body(file: &[u8], at: usize) -> Record
 
 // The record whose first byte is at a position, if it has the mark.
 pub fn decode(file: &[u8], at: usize) -> Decoded
-    requires { ⌜ at + 7 ≤ length (now file) ⌝ }
+    requires { ⌜ at + recordLength ≤ length (now file) ⌝ }
     ensures { λ r. ⌜ r ≡ decodedOf (recordFrom (now (file .entry)) at) ⌝ }
 {
-    if pair(file[at], file[at + 1]) != MARK {
+    if pair(file[at], file[at + 1]) != PLAN_MARK {
         return Decoded::Unmarked;
     }
     Decoded::Read(body(file, at))

@@ -1,8 +1,7 @@
-// The plan file: its decoder, the table of operand ranges, the check, and where each worker's steps begin.
+// The plan file: its decoder, the check, and where each worker's steps begin.
 pub mod answer;
 pub mod barriers;
 pub mod check;
 pub mod decode;
 pub mod skips;
 pub mod steps;
-pub mod table;

@@ -1,37 +1,46 @@
 // The step records, and where each worker's steps begin.
 use crate::answer::Refusal;
-use crate::answer::Ruling;
+use crate::answer::Rule;
 use crate::answer::Verdict;
 use crate::decode::Decoded;
 use crate::decode::Record;
 use crate::decode::decode;
-use crate::table::ROWS;
-use crate::table::Row;
-use crate::table::place;
+use format::limits::BARRIER_COUNT;
+use format::limits::RECORD_LENGTH;
+use format::limits::STEPS_LIMIT;
+use format::limits::WORKERS_LIMIT;
+use format::ops;
+use format::table::ROW_COUNT;
+use format::table::Row;
+use format::table::place;
+use format::table::rows;
 ghost use mathlib.Core.Path.{_≡_};
+ghost use mathlib.Core.Option.{some};
 ghost use Prim.Native.Nat.{ℕ, _+_, _*_, _≤_, _<_};
 ghost use lib.ListN.{length, getD};
-ghost use Rattle.protocol.specs.Format.{rowOf};
-ghost use Rattle.plan.specs.Answer.{ruleOf, limitsOf, RowsRight};
-ghost use Rattle.plan.specs.Stepping.{outsideOf, badWorker, readSteps, noStepRuling, operandRuling, laterRuling, StepsSoFar, Opened, StepsRead};
+ghost use Rattle.protocol.specs.Format.{recordLength, workersLimit};
+ghost use Rattle.format.specs.Table.{limits, limitsFor};
+ghost use Rattle.plan.specs.Answer.{refusalOf, ruleAs};
+ghost use Rattle.plan.specs.Stepping.{outsideOf, refusesWorker, readSteps, noStep, keptOperandRule, keptRule, StepsSoFar, WorkersOpened, StepsRead};
 
+// Whether an operand is out of its row's ranges.
 fn outside(row: Row, register: u8, number: u16) -> bool
     ensures { λ b. ⌜ b ≡ outsideOf row register number ⌝ }
 {
-    if row.0 < register as u16 {
+    if row.registers < register as u16 {
         return true;
     }
-    if number < row.1 {
+    if number < row.least {
         return true;
     }
-    row.2 < number
+    row.most < number
 }
 
 // Whether a worker is not below n, or falls. The last opened, whose steps most records are, is tested first.
 fn bad_worker(worker: usize, n: usize, opened: usize) -> bool
     requires { ⌜ worker < 256 ⌝ }
     requires { ⌜ opened ≤ n ⌝ }
-    ensures { λ b. ⌜ b ≡ badWorker n opened worker ⌝ }
+    ensures { λ b. ⌜ b ≡ refusesWorker n opened worker ⌝ }
 {
     if worker + 1 == opened {
         return false;
@@ -43,8 +52,8 @@ fn bad_worker(worker: usize, n: usize, opened: usize) -> bool
 }
 
 // How many steps of a worker that does not fall have been read, at record i: the last worker's steps reach up to it.
-fn steps_read(firsts: &[usize; 9], opened: usize, worker: usize, i: usize) -> usize
-    requires { ⌜ worker < 9 ⌝ }
+fn steps_read(firsts: &[usize; WORKERS_LIMIT + 1], opened: usize, worker: usize, i: usize) -> usize
+    requires { ⌜ worker ≤ workersLimit ⌝ }
     requires { ⌜ opened ≤ worker + 1 ⌝ }
     requires { ⌜ (worker < opened → getD (now firsts) worker 0 ≤ i) ⌝ }
     ensures { λ r. ⌜ r ≡ readSteps (now (firsts .entry)) opened worker i ⌝ }
@@ -55,70 +64,67 @@ fn steps_read(firsts: &[usize; 9], opened: usize, worker: usize, i: usize) -> us
     0
 }
 
-// The rule of a record behind the barrier records whose op has no step.
-fn no_step_ruling(op: u8) -> Ruling
-    ensures { λ s. ⌜ ruleOf s ≡ noStepRuling op ⌝ }
+// The refusal of a record behind the barrier records whose op has no row.
+fn no_step(op: u8) -> Refusal
+    ensures { λ f. ⌜ refusalOf f ≡ noStep op ⌝ }
 {
-    if op == 0 {
-        return Ruling::Refuses(Refusal::BadPlan);
+    if op == ops::PLAN_RECORD {
+        return Refusal::BadPlan;
     }
-    if op == 1 {
-        return Ruling::Refuses(Refusal::BadBarrier);
+    if op == ops::BARRIER_RECORD {
+        return Refusal::BadBarrier;
     }
-    Ruling::Refuses(Refusal::BadOp)
+    Refusal::BadOp
 }
 
 // The rule of a step's operands, whose op has the row.
-fn operand_ruling(row: Row, r: Record, sizes: &[u8; 8]) -> Ruling
-    requires { ⌜ row ≡ limitsOf (rowOf (r .op)) ⌝ }
-    ensures { λ s. ⌜ ruleOf s ≡ operandRuling (now (sizes .entry)) r ⌝ }
+fn operand_rule(row: Row, r: Record, sizes: &[u8; BARRIER_COUNT]) -> Rule
+    requires { ⌜ limitsFor (r .op) ≡ some row ⌝ }
+    ensures { λ s. ⌜ ruleAs s ≡ keptOperandRule (now (sizes .entry)) r ⌝ }
 {
     let number = r.number;
     if outside(row, r.register, number) {
-        return Ruling::Refuses(Refusal::BadOperand);
+        return Rule::Refuses(Refusal::BadOperand);
     }
-    if r.op == 37 {
+    if r.op == ops::BARRIER {
         let at = number as usize;
         if sizes[at] == 0 {
-            return Ruling::Refuses(Refusal::NoSize);
+            return Rule::Refuses(Refusal::NoSize);
         }
     }
-    Ruling::Holds
+    Rule::Holds
 }
 
-// The rule of a record behind the barrier records, whose op has the row.
-fn later_ruling(
+// The rule of a step, whose op has the row.
+fn step_rule(
     row: Row,
     r: Record,
     n: usize,
     opened: usize,
-    sizes: &[u8; 8],
-    firsts: &[usize; 9],
+    sizes: &[u8; BARRIER_COUNT],
+    firsts: &[usize; WORKERS_LIMIT + 1],
     i: usize,
-) -> Ruling
-    requires { ⌜ row ≡ limitsOf (rowOf (r .op)) ⌝ }
-    requires { ⌜ n ≤ 8 ⌝ }
+) -> Rule
+    requires { ⌜ limitsFor (r .op) ≡ some row ⌝ }
+    requires { ⌜ n ≤ workersLimit ⌝ }
     requires { ⌜ opened ≤ n ⌝ }
     requires { ⌜ ((w : ℕ) → w < opened → getD (now firsts) w 0 ≤ i) ⌝ }
-    ensures { λ s. ⌜ ruleOf s ≡ laterRuling n opened (now (sizes .entry)) (now (firsts .entry)) i r ⌝ }
+    ensures { λ s. ⌜ ruleAs s ≡ keptRule n opened (now (sizes .entry)) (now (firsts .entry)) i r ⌝ }
 {
-    if row.2 < row.1 {
-        return no_step_ruling(r.op);
-    }
     let worker = r.worker as usize;
     if bad_worker(worker, n, opened) {
-        return Ruling::Refuses(Refusal::BadWorker);
+        return Rule::Refuses(Refusal::BadWorker);
     }
-    if 128 <= steps_read(firsts, opened, worker, i) {
-        return Ruling::Refuses(Refusal::TooManySteps);
+    if STEPS_LIMIT <= steps_read(firsts, opened, worker, i) {
+        return Rule::Refuses(Refusal::TooManySteps);
     }
-    operand_ruling(row, r, sizes)
+    operand_rule(row, r, sizes)
 }
 
 // The steps of the workers from `opened` up to `worker` begin at record i.
-fn open_workers(firsts: &mut [usize; 9], opened: usize, worker: usize, i: usize)
-    requires { ⌜ worker < 9 ⌝ }
-    ensures { λ r. ⌜ Opened (now (firsts .entry)) opened (worker + 1) i (now (firsts .exit)) ⌝ }
+fn open_workers(firsts: &mut [usize; WORKERS_LIMIT + 1], opened: usize, worker: usize, i: usize)
+    requires { ⌜ worker ≤ workersLimit ⌝ }
+    ensures { λ r. ⌜ WorkersOpened (now (firsts .entry)) opened (worker + 1) i (now (firsts .exit)) ⌝ }
 {
     let mut k = opened;
     while k <= worker {
@@ -130,30 +136,39 @@ fn open_workers(firsts: &mut [usize; 9], opened: usize, worker: usize, i: usize)
 // Reads the records from `start` on, which are the steps, by the table, and notes where each worker's begin; from worker n on
 // that is behind the last.
 fn read_by_table(
-    rows: [Row; 39],
+    rows: [Row; ROW_COUNT],
     file: &[u8],
     count: usize,
     n: usize,
-    sizes: &[u8; 8],
+    sizes: &[u8; BARRIER_COUNT],
     start: usize,
-    firsts: &mut [usize; 9],
+    firsts: &mut [usize; WORKERS_LIMIT + 1],
 ) -> Verdict
-    requires { ⌜ RowsRight rows ⌝ }
-    requires { ⌜ 7 * count ≤ length (now file) ⌝ }
+    requires { ⌜ rows ≡ limits ⌝ }
+    requires { ⌜ recordLength * count ≤ length (now file) ⌝ }
     requires { ⌜ StepsSoFar (now file) count n (now sizes) start ⌝ }
-    requires { ⌜ length (now firsts) ≡ 9 ⌝ }
+    requires { ⌜ length (now firsts) ≡ workersLimit + 1 ⌝ }
     ensures { λ v. ⌜ StepsRead (now (file .entry)) count (now (sizes .entry)) start v (now (firsts .exit)) ⌝ }
 {
     let mut opened = 0usize;
     let mut i = start;
     while i < count {
-        let Decoded::Read(r) = decode(file, 7 * i) else {
+        let Decoded::Read(r) = decode(file, RECORD_LENGTH * i) else {
             return Verdict::Refused(Refusal::BadMark, i);
         };
         let at = place(r.op);
-        let row = rows[at];
-        let ruling = later_ruling(row, r, n, opened, sizes, firsts, i);
-        if let Ruling::Refuses(f) = ruling {
+        if at == ROW_COUNT {
+            return Verdict::Refused(no_step(r.op), i);
+        }
+        // Part by part: a row that is copied whole is taken apart again by shifts.
+        let row = Row {
+            op: rows[at].op,
+            registers: rows[at].registers,
+            least: rows[at].least,
+            most: rows[at].most,
+        };
+        let rule = step_rule(row, r, n, opened, sizes, firsts, i);
+        if let Rule::Refuses(f) = rule {
             return Verdict::Refused(f, i);
         }
         let worker = r.worker as usize;
@@ -161,7 +176,7 @@ fn read_by_table(
         opened = worker + 1;
         i += 1;
     }
-    open_workers(firsts, opened, 8, count);
+    open_workers(firsts, opened, WORKERS_LIMIT, count);
     Verdict::Accepted
 }
 
@@ -170,15 +185,14 @@ pub fn read_steps(
     file: &[u8],
     count: usize,
     n: u8,
-    sizes: &[u8; 8],
+    sizes: &[u8; BARRIER_COUNT],
     start: usize,
-    firsts: &mut [usize; 9],
+    firsts: &mut [usize; WORKERS_LIMIT + 1],
 ) -> Verdict
-    requires { ⌜ 7 * count ≤ length (now file) ⌝ }
+    requires { ⌜ recordLength * count ≤ length (now file) ⌝ }
     requires { ⌜ StepsSoFar (now file) count n (now sizes) start ⌝ }
-    requires { ⌜ length (now firsts) ≡ 9 ⌝ }
+    requires { ⌜ length (now firsts) ≡ workersLimit + 1 ⌝ }
     ensures { λ v. ⌜ StepsRead (now (file .entry)) count (now (sizes .entry)) start v (now (firsts .exit)) ⌝ }
 {
-    let rows = ROWS;
-    read_by_table(rows, file, count, n as usize, sizes, start, firsts)
+    read_by_table(rows(), file, count, n as usize, sizes, start, firsts)
 }

@@ -9,15 +9,15 @@ use native.Mathlib.Decide.{decLt}
 use lib.Dec.{ltb, eqb}
 use lib.ListN.{length, getD, drop, length-append, length-map, List·getD-eq-default}
 use borrow.Author.Tests.{ltb-false, eqb-true, eqb-false, not-false}
-use Rattle.protocol.specs.Format.{Record, planMark, known, rowIn, recordCount, records, isStep, isSkip, workersIn, stepsIn, Step, sync, exit, own, skipZero, skipNonzero, firstIn, sizeIn, barrierCount, upTo, planIn, planOf}
-use Rattle.protocol.specs.Refusals.{Refusal, Rule, Verdict, accepted, refused, ruled, holds, badMark, badPlan, badLength, outside, lengthRule, planRule, laterRule, recordRule, skipTooFar, skipRule, checkSkips, checkRecords, check}
+use Rattle.protocol.specs.Format.{Record, recordLength, fileLimit, planMark, known, rowIn, recordCount, records, isStep, isSkip, workersIn, stepsIn, Step, sync, exit, own, skipZero, skipNonzero, firstIn, sizeIn, barrierCount, upTo, planIn, planOf}
+use Rattle.protocol.specs.Refusals.{Refusal, Rule, Verdict, accepted, refused, ruled, holds, badMark, badPlan, badLength, wrongLength, wrongPlan, lengthRule, planRule, laterRule, recordRule, skipTooFar, skipRule, checkSkips, checkRecords, check}
 use Rattle.protocol.specs.Steps.{stepsOf, stepAt}
 use Rattle.protocol.specs.Turns.{workersOf}
 use Rattle.protocol.specs.WellFormed.{blank, PlanRecord}
 use Rattle.protocol.proofs.Bools.{or-false, or-left, or-right, and-left, and-right}
 use Rattle.protocol.proofs.Lists.{length-countFrom, length-recordsFrom, mapped}
 use Rattle.protocol.proofs.Records.{one, first-unopened, first-inside}
-use Rattle.protocol.proofs.Taken.{passes, none-of}
+use Rattle.protocol.proofs.Taken.{passes, none-of, plan-record}
 use Rattle.protocol.proofs.Tabled.{stepOp, skipLength, step-op, step-skip}
 use Rattle.protocol.proofs.Sound.{Sound}
 use Rattle.protocol.proofs.Prefix.{Read, read-first, read-more}
@@ -41,23 +41,6 @@ all-read q qs (r ∷ rest) read e =
     subst Whole (append-assoc (q ∷ qs) (one r) rest)
     (all-read q (qs ++ one r) rest (read-more q qs r read later) (t .1))
 
--- what the rule of a plan record tests
-abbrev pub planTest : Record → Bool
-planTest r = not (eqb (r .op) 0) || outside 1 8 (r .worker) || not (eqb (r .register) 0) || not (eqb (r .number) 0)
-
-pub plan-record : (r : Record) → planRule r ≡ holds → PlanRecord r
-unfolding planRule
-plan-record r e =
-    let t = none-of (not (eqb (r .op) 0)) (outside 1 8 (r .worker)) (not (eqb (r .register) 0)) (not (eqb (r .number) 0)) false
-    (or-false (planTest r) ∙ passes (planTest r) badPlan holds e .0) in
-    record {
-      op = eqb-true (r .op) 0 (not-false _ (t .0));
-      least = ltb-false _ _ (or-left (ltb (r .worker) 1) (ltb 8 (r .worker)) (t .1));
-      most = ltb-false _ _ (or-right (ltb (r .worker) 1) (t .1));
-      register = eqb-true (r .register) 0 (not-false _ (t .2));
-      number = eqb-true (r .number) 0 (not-false _ (t .3));
-    }
-
 -- the rule of each skip holds, with the records behind it
 skips-hold : (rs : List Record) (i k : ℕ) → checkSkips i rs ≡ accepted → k < length rs → skipRule (getD rs k blank) (drop (suc k) rs) ≡ holds
 unfolding checkSkips
@@ -73,11 +56,11 @@ pub record Accepted (rs : List Record) : Type 0 where
   pub skips : (k : ℕ) → k < length rs → skipRule (getD rs k blank) (drop (suc k) rs) ≡ holds
 
 pub accepted-records : (rs : List Record) → (length rs ≡ 0 → ⊥) → checkRecords [] rs ≡ accepted → Accepted rs
-unfolding checkRecords recordRule known rowIn
+unfolding checkRecords recordRule planRule known rowIn
 accepted-records [] n e = absurd (n refl)
 accepted-records (r ∷ rest) n e =
     let t = accepts (recordRule [] r) 0 (checkRecords (one r) rest) e in
-    let p = plan-record r (passes (not (eqb (r .mark) planMark)) badMark (planRule r) (t .0) .1) in
+    let p = plan-record r (passes (wrongPlan r) badPlan holds (passes (not (eqb (r .mark) planMark)) badMark (planRule r) (t .0) .1) .0) in
     let w = all-read r [] rest (read-first r (ap (λ (o : ℕ). eqb o 1) (p .op)) (ap known (p .op))) (t .1) in
     record {
       least = p .least;
@@ -89,17 +72,22 @@ accepted-records (r ∷ rest) n e =
 pub record Length (file : List ℕ) : Type 0 where
   pub some : 1 ≤ recordCount file
   pub most : recordCount file ≤ 1033
-  pub bytes : length file ≡ 7 * recordCount file
+  pub bytes : length file ≡ recordLength * recordCount file
 
-pub length-right : (file : List ℕ) → lengthRule (length file) ≡ holds → Length file
-unfolding lengthRule recordCount
+pub length-right : (file : List ℕ) → wrongLength (length file) ≡ false → Length file
+unfolding recordCount
 length-right file e =
-    let t = passes (eqb (length file) 0 || not (eqb (length file % 7) 0) || ltb 7231 (length file)) badLength holds e .0 in
-    let t₁ = or-left (eqb (length file) 0 || not (eqb (length file % 7) 0)) (ltb 7231 (length file)) t in
-    let z = eqb-false (length file) 0 (or-left (eqb (length file) 0) (not (eqb (length file % 7) 0)) t₁) in
-    let m = eqb-true (length file % 7) 0 (not-false _ (or-right (eqb (length file) 0) t₁)) in
-    let l = ltb-false 7231 (length file) (or-right (eqb (length file) 0 || not (eqb (length file % 7) 0)) t) in
+    let bytes = length file in
+    let t = none-of (eqb bytes 0) (not (eqb (bytes % recordLength) 0)) (ltb fileLimit bytes) e in
+    let z = eqb-false bytes 0 (t .0) in
+    let m = eqb-true (bytes % recordLength) 0 (not-false _ (t .1)) in
+    let l = ltb-false fileLimit bytes (t .2) in
     record { some = omega arith; most = omega arith; bytes = omega arith }
+
+-- the rule of the length
+pub length-ruled : (file : List ℕ) → lengthRule (length file) ≡ holds → Length file
+unfolding lengthRule
+length-ruled file e = length-right file (passes (wrongLength (length file)) badLength holds e .0)
 
 pub length-records : (file : List ℕ) → length (records file) ≡ recordCount file
 unfolding records
@@ -114,7 +102,7 @@ pub accepted-file : (file : List ℕ) → check file ≡ accepted → AcceptedFi
 unfolding check
 accepted-file file e =
     let t = accepts (lengthRule (length file)) 0 (checkRecords [] (records file)) e in
-    let l = length-right file (t .0) in
+    let l = length-ruled file (t .0) in
     record {
       size = l;
       records = accepted-records (records file) (λ z. let n = length-records file in let s = l .some in omega arith) (t .1);
@@ -229,6 +217,6 @@ check-index file j f e = go (lengthRule (length file)) refl e
     go none p q =
         let l = records-index [] (records file) j f q in
         let n = length-records file in
-        let m = length-right file p .most in
+        let m = length-ruled file p .most in
         omega arith
     go (some g) p q = let s : _≡_ {A = ℕ} 0 j = cc in omega arith

@@ -7,17 +7,16 @@ use mathlib.Core.List.{List, [], _∷_, _++_}
 use mathlib.Core.Option.{Option, none, some}
 use native.Mathlib.Omega.{arith}
 use lib.Dec.{leb, ltb, eqb}
-use lib.ListN.{length, take, List·getD-append}
+use lib.ListN.{length, getD, take, List·getD-append}
 use lib.Seq.{getD-append-seam, take-append-seam}
 use borrow.Author.Tests.{ltb-true, ltb-false, leb-true, leb-false, eqb-true, eqb-false, not-true, not-false, lt-ltb, le-ltb, le-leb, lt-leb, eq-eqb}
 use Rattle.protocol.specs.Format.{Record, Row, planMark, rowIn, rowOf, known, isBarrier, isStep, workersIn, stepsIn, barrierCount}
-use Rattle.protocol.specs.Refusals.{Refusal, badMark, badPlan, badBarrier, badWorker, badOp, badOperand, tooManySteps, noSize, Verdict, accepted, Rule, holds, refuseIf, ruled, anyOf, outside, planRule, barrierRule, operandsOutside, stepRule, laterRule, recordRule}
+use Rattle.protocol.specs.Refusals.{Refusal, badMark, badPlan, badBarrier, badWorker, badOp, badOperand, tooManySteps, noSize, Verdict, accepted, Rule, holds, refuseIf, ruled, anyOf, outside, wrongPlan, planRule, wrongBarrier, barrierRecordRule, operandsOutside, stepRule, laterRule, recordRule}
 use Rattle.protocol.specs.WellFormed.{blank, recordAt, PlanRecord, BarrierRecord}
 use Rattle.protocol.specs.Conditions.{NoMark, Before, BarrierAmiss, UnknownOp, WorkerAmiss, StepBeyond, OperandOutside, SizeMissing, Test, test, testsOf, recordTests, FirstDue}
-use Rattle.protocol.proofs.Bools.{or-left, or-right, and-left, and-right}
+use Rattle.protocol.proofs.Bools.{split, or-left, or-right, and-left, and-right}
 use Rattle.protocol.proofs.Records.{one, names}
-use Rattle.protocol.proofs.Taken.{barrier-no-step, none-of}
-use Rattle.protocol.proofs.Accepted.{planTest, plan-record}
+use Rattle.protocol.proofs.Taken.{barrier-no-step, none-of, plan-record, barrier-record}
 
 pub nothing-due : FirstDue [] accepted
 unfolding FirstDue
@@ -44,30 +43,20 @@ passes-by not-due more = record { decides = λ rest v h. inr (not-due, more .dec
 
 -- ---- what stands before a record
 
-pub any-there : (t : Record → Bool) (rs : List Record) → anyOf t rs ≡ true → (k : ℕ) × (k < length rs) × (t (recordAt rs k) ≡ true)
+pub any-there : {A : Type 0} (t : A → Bool) (l : List A) (d : A) → anyOf t l ≡ true → (k : ℕ) × (k < length l) × (t (getD l k d) ≡ true)
 unfolding anyOf
-any-there t [] e = absurd (false≢true e)
-any-there t (r ∷ rs) e = go (t r) refl (λ q. any-there t rs q) e
-  where
-    go : (b : Bool) → t r ≡ b → (anyOf t rs ≡ true → (k : ℕ) × (k < length rs) × (t (recordAt rs k) ≡ true))
-        → b || anyOf t rs ≡ true → (k : ℕ) × (k < suc (length rs)) × (t (recordAt (r ∷ rs) k) ≡ true)
-    go true p ih q = (0, omega arith, p)
-    go false p ih q = let h = ih q in (suc (h .0), omega (arith, h .1), h .2)
+any-there t [] d e = absurd (false≢true e)
+any-there t (x ∷ l) d e =
+    split (t x) (λ p. (0, omega arith, p))
+    (λ p. let h = any-there t l d (ap (λ (b : Bool). b || anyOf t l) (sym p) ∙ e) in (suc (h .0), omega (arith, h .1), h .2))
 
-pub any-none : (t : Record → Bool) (rs : List Record) → anyOf t rs ≡ false → (k : ℕ) → k < length rs → t (recordAt rs k) ≡ false
+pub any-none : {A : Type 0} (t : A → Bool) (l : List A) (d : A) → anyOf t l ≡ false → (k : ℕ) → k < length l → t (getD l k d) ≡ false
 unfolding anyOf
-any-none t [] e k h = absurd (omega arith)
-any-none t (r ∷ rs) e zero h = or-left (t r) (anyOf t rs) e
-any-none t (r ∷ rs) e (suc k) h = any-none t rs (or-right (t r) e) k (omega arith)
+any-none t [] d e k h = absurd (omega arith)
+any-none t (x ∷ l) d e zero h = or-left (t x) (anyOf t l) e
+any-none t (x ∷ l) d e (suc k) h = any-none t l d (or-right (t x) e) k (omega arith)
 
 -- ---- one record: its rule stands for its tests
-
-any-of : (a b c d e : Bool) → a || b || c || d || e ≡ true → (a ≡ true) ⊎ ((b ≡ true) ⊎ ((c ≡ true) ⊎ ((d ≡ true) ⊎ (e ≡ true))))
-any-of true b c d e h = inl refl
-any-of false true c d e h = inr (inl refl)
-any-of false false true d e h = inr (inr (inl refl))
-any-of false false false true e h = inr (inr (inr (inl refl)))
-any-of false false false false e h = inr (inr (inr (inr h)))
 
 pub or-cases : (a b : Bool) → a || b ≡ true → (a ≡ true) ⊎ (b ≡ true)
 or-cases true b e = inl refl
@@ -132,15 +121,15 @@ unfolding recordRule planRule known rowIn
 first-covers behind r =
     covers (not (eqb (r .mark) planMark)) badMark (planRule r) (mark-due r) (mark-right r)
     (λ m.
-    covers (planTest r) badPlan holds
+    covers (wrongPlan r) badPlan holds
     (λ e. inl (refl, λ p. absurd (false≢true (sym (whole p) ∙ e))))
-    (λ e. ⊎-elim (λ d. d .1 (plan-record r (ap (λ (b : Bool). refuseIf b badPlan holds) e))) (λ d. let h = d .0 in omega arith))
+    (λ e. ⊎-elim (λ d. d .1 (plan-record r e)) (λ d. let h = d .0 in omega arith))
     (λ e.
-    let op = plan-record r (ap (λ (b : Bool). refuseIf b badPlan holds) e) .op in
+    let op = plan-record r e .op in
     passes-by (λ (d : BarrierAmiss (r ∷ behind) 0 r). false≢true (sym (ap (λ (o : ℕ). eqb o 1) op) ∙ d .0))
     (no-step (r ∷ behind) 0 r (ap known op) (λ d. d .0 op) (λ q. let z = sym op ∙ q in omega arith))))
   where
-    whole : PlanRecord r → planTest r ≡ false
+    whole : PlanRecord r → wrongPlan r ≡ false
     whole p =
         simp (eq-eqb _ _ (p .op), eq-eqb _ _ (p .register), eq-eqb _ _ (p .number), le-ltb (r .worker) 1 (p .least), le-ltb 8 (r .worker) (p .most))
 
@@ -157,23 +146,22 @@ module _ (q : Record) (qs behind : List Record) (r : Record) where
 
   found : (t : Record → Bool) (P : Record → Type 0) → ((p : Record) → t p ≡ true → P p) → anyOf t taken ≡ true → Before all index P
   found t P f e =
-      let h = any-there t taken e in
+      let h = any-there t taken blank e in
       (h .0, h .1, subst⁻¹ P (List·getD-append taken (r ∷ behind) blank (h .0) (h .1)) (f _ (h .2)))
 
   missing : (t : Record → Bool) (P : Record → Type 0) → ((p : Record) → P p → t p ≡ true) → anyOf t taken ≡ false → Before all index P → ⊥
   missing t P f e h =
       false≢true
-      (sym (any-none t taken e (h .0) (h .1)) ∙ f _ (subst P (List·getD-append taken (r ∷ behind) blank (h .0) (h .1)) (h .2)))
+      (sym (any-none t taken blank e (h .0) (h .1)) ∙ f _ (subst P (List·getD-append taken (r ∷ behind) blank (h .0) (h .1)) (h .2)))
 
   -- a barrier record
   abbrev higher : Record → Bool
   higher p = isBarrier p && leb (r .register) (p .register)
 
   abbrev barrierTest : Bool
-  barrierTest =
-      anyOf higher taken || anyOf isStep taken || not (eqb (r .worker) 0) || leb barrierCount (r .register) || outside 1 8 (r .number)
+  barrierTest = anyOf higher taken || anyOf isStep taken || wrongBarrier r
 
-  in-range : BarrierRecord r → not (eqb (r .worker) 0) || (leb barrierCount (r .register) || outside 1 8 (r .number)) ≡ false
+  in-range : BarrierRecord r → wrongBarrier r ≡ false
   in-range b =
       simp (eq-eqb _ _ (b .worker), lt-leb barrierCount (r .register) (b .barrier), le-ltb (r .number) 1 (b .least), le-ltb 8 (r .number) (b .most))
 
@@ -189,35 +177,18 @@ module _ (q : Record) (qs behind : List Record) (r : Record) where
   barrier-due : isBarrier r ≡ true → barrierTest ≡ true → BarrierAmiss all index r
   barrier-due b e = (
     b,
-    ⊎-elim (λ h. inl (found higher Higher higher-due h))
-        (⊎-elim (λ h. inr (inl (found isStep (λ p. isStep p ≡ true) (λ p s. s) h)))
-        (λ h. inr (inr (λ w. absurd (false≢true (sym (in-range w) ∙ range h))))))
-        (any-of (anyOf higher taken) (anyOf isStep taken) (not (eqb (r .worker) 0)) (leb barrierCount (r .register)) (outside 1 8 (r .number)) e),
+    ⊎-elim
+        (λ h. ⊎-elim (λ m. inl (found higher Higher higher-due m)) (λ s. inr (inl (found isStep (λ p. isStep p ≡ true) (λ p t. t) s)))
+        (or-cases (anyOf higher taken) (anyOf isStep taken) h))
+        (λ w. inr (inr (λ f. absurd (false≢true (sym (in-range f) ∙ w)))))
+        (or-cases (anyOf higher taken || anyOf isStep taken) (wrongBarrier r) e),
   )
-    where
-      range : (not (eqb (r .worker) 0) ≡ true) ⊎ ((leb barrierCount (r .register) ≡ true) ⊎ (outside 1 8 (r .number) ≡ true))
-          → not (eqb (r .worker) 0) || (leb barrierCount (r .register) || outside 1 8 (r .number)) ≡ true
-      range = go (not (eqb (r .worker) 0)) (leb barrierCount (r .register)) (outside 1 8 (r .number))
-        where
-          go : (a b c : Bool) → (a ≡ true) ⊎ ((b ≡ true) ⊎ (c ≡ true)) → a || (b || c) ≡ true
-          go true b c h = refl
-          go false true c h = refl
-          go false false c h = ⊎-elim (λ e. absurd (false≢true e)) (⊎-elim (λ e. absurd (false≢true e)) (λ e. e)) h
 
   barrier-right : isBarrier r ≡ true → barrierTest ≡ false → BarrierAmiss all index r → ⊥
   barrier-right b e h =
-      let t = none-of (anyOf higher taken) (anyOf isStep taken) (not (eqb (r .worker) 0)) (leb barrierCount (r .register)) (outside 1 8 (r .number)) e in
+      let t = none-of (anyOf higher taken) (anyOf isStep taken) (wrongBarrier r) e in
       ⊎-elim (missing higher Higher higher-test (t .0))
-      (⊎-elim (missing isStep (λ p. isStep p ≡ true) (λ p s. s) (t .1))
-      (λ amiss.
-      amiss
-      (record {
-        op = eqb-true (r .op) 1 b;
-        worker = eqb-true (r .worker) 0 (not-false _ (t .2));
-        barrier = leb-false _ _ (t .3);
-        least = ltb-false _ _ (or-left (ltb (r .number) 1) (ltb 8 (r .number)) (t .4));
-        most = ltb-false _ _ (or-right (ltb (r .number) 1) (t .4));
-      })))
+      (⊎-elim (missing isStep (λ p. isStep p ≡ true) (λ p s. s) (t .1)) (λ amiss. amiss (barrier-record r b (t .2))))
       (h .1)
 
   -- a step
@@ -298,7 +269,7 @@ module _ (q : Record) (qs behind : List Record) (r : Record) where
       (λ m. covers-none index)))))
 
   later-covers : Covers (testsOf all index r) (recordRule taken r) index
-  unfolding recordRule laterRule barrierRule known rowIn
+  unfolding recordRule laterRule barrierRecordRule known rowIn
   later-covers =
       covers (not (eqb (r .mark) planMark)) badMark (laterRule taken r) (mark-due r) (mark-right r)
       (λ m.
@@ -308,7 +279,7 @@ module _ (q : Record) (qs behind : List Record) (r : Record) where
       (λ z. go (isBarrier r) refl z))
     where
       go : (b : Bool) → isBarrier r ≡ b → eqb (r .op) 0 ≡ false
-          → Covers (test badBarrier index (BarrierAmiss all index r) ∷ stepTests all index r) (cond b (barrierRule taken r) (stepRule taken r)) index
+          → Covers (test badBarrier index (BarrierAmiss all index r) ∷ stepTests all index r) (cond b (barrierRecordRule taken r) (stepRule taken r)) index
       go true b z =
           covers barrierTest badBarrier holds (barrier-due b) (barrier-right b)
           (λ e. no-step all index r (barrier-no-step r b) (λ d. absurd (false≢true (sym (d .1) ∙ b))) (λ o. let one = eqb-true (r .op) 1 b in omega arith))

@@ -10,12 +10,12 @@ use lib.ListN.{length, take, length-take}
 use lib.Seq.{getD-take}
 use borrow.Author.Tests.{ltb-false, leb-false, le-ltb, eqb-true, not-false, eq-eqb}
 use Rattle.protocol.specs.Format.{Record, planMark, isBarrier, isStep, isSkip, workersIn}
-use Rattle.protocol.specs.Refusals.{badMark, accepted, holds, anyOf, planRule, laterRule, recordRule, skipTooFar, skipRule, checkRecords}
+use Rattle.protocol.specs.Refusals.{badMark, accepted, holds, anyOf, planRule, laterRule, recordRule, skipTooFar, skipRule, checkRecords, wrongPlan, badPlan}
 use Rattle.protocol.specs.WellFormed.{blank, recordAt, PlanRecord, BarrierRecord, StepRecord, stepsBehind, FormedRecords}
 use Rattle.protocol.proofs.Bools.{and-left, and-right}
 use Rattle.protocol.proofs.Records.{one, reaches, picks, openedIn, names}
-use Rattle.protocol.proofs.Taken.{passes, BarrierTaken, StepTaken, later-taken}
-use Rattle.protocol.proofs.Accepted.{accepts, plan-record, accepted-records}
+use Rattle.protocol.proofs.Taken.{passes, plan-record, BarrierTaken, StepTaken, later-taken}
+use Rattle.protocol.proofs.Accepted.{accepts, accepted-records}
 use Rattle.protocol.proofs.Covered.{any-there, any-none, known-row, operands-inside}
 
 -- ---- what an accepted file's records are: each rule holds, of the records before its own
@@ -34,10 +34,6 @@ rule-mark : (before : List Record) (r : Record) → recordRule before r ≡ hold
 unfolding recordRule
 rule-mark [] r e = eqb-true (r .mark) planMark (not-false _ (passes (not (eqb (r .mark) planMark)) badMark (planRule r) e .0))
 rule-mark (q ∷ qs) r e = eqb-true (r .mark) planMark (not-false _ (passes (not (eqb (r .mark) planMark)) badMark (laterRule (q ∷ qs) r) e .0))
-
-barrier-record : (before : List Record) (r : Record) → BarrierTaken before r → BarrierRecord r
-barrier-record before r t =
-    record { op = eqb-true (r .op) 1 (t .barrier); worker = t .worker; barrier = t .named; least = t .least; most = t .most }
 
 step-record : (before : List Record) (r : Record) → StepTaken before r → StepRecord (workersIn before) r
 step-record before r t =
@@ -72,7 +68,7 @@ module _ (q : Record) (qs : List Record) (ok : checkRecords [] (q ∷ qs) ≡ ac
   -- a test that holds of no record before record j
   none-before : (t : Record → Bool) (i j : ℕ) → i < j → j < length rs → anyOf t (take j rs) ≡ false → t (recordAt rs i) ≡ false
   none-before t i j l h e =
-      subst (λ (r : Record). t r ≡ false) (getD-take j rs i blank l) (any-none t (take j rs) e i (within i j l h))
+      subst (λ (r : Record). t r ≡ false) (getD-take j rs i blank l) (any-none t (take j rs) blank e i (within i j l h))
 
   not-both : (a b : Bool) → a && b ≡ false → a ≡ true → b ≡ false
   not-both a b e h = sym (ap (λ (t : Bool). t && b) h) ∙ e
@@ -105,12 +101,13 @@ module _ (q : Record) (qs : List Record) (ok : checkRecords [] (q ∷ qs) ≡ ac
       omega arith
 
   first-is : PlanRecord q
-  first-is = plan-record q first-rule
+  unfolding planRule
+  first-is = plan-record q (passes (wrongPlan q) badPlan holds first-rule .0)
 
   later : (i : ℕ) → 1 ≤ i → i < length rs → BarrierRecord (recordAt rs i) ⊎ StepRecord (workersIn rs) (recordAt rs i)
   later zero l h = absurd (omega arith)
   later (suc i) l h =
-      ⊎-elim (λ t. inl (barrier-record (take (suc i) rs) _ t)) (λ t. inr (step-record (take (suc i) rs) _ t)) (taken (suc i) l h)
+      ⊎-elim (λ t. inl (t .formed)) (λ t. inr (step-record (take (suc i) rs) _ t)) (taken (suc i) l h)
 
   sized : (j : ℕ) → j < length rs → recordAt rs j .op ≡ 37
       → (i : ℕ) × (i < length rs) × (isBarrier (recordAt rs i) ≡ true) × (recordAt rs i .register ≡ recordAt rs j .number)
@@ -120,7 +117,7 @@ module _ (q : Record) (qs : List Record) (ok : checkRecords [] (q ∷ qs) ≡ ac
       named : StepTaken (take (suc j) rs) (recordAt rs (suc j))
           → (i : ℕ) × (i < length rs) × (isBarrier (recordAt rs i) ≡ true) × (recordAt rs i .register ≡ recordAt rs (suc j) .number)
       named t =
-          let s = any-there (names (recordAt rs (suc j) .number)) (take (suc j) rs) (not-false _ (not-both (eqb (recordAt rs (suc j) .op) 37) _ (t .sized) (eq-eqb _ _ o))) in
+          let s = any-there (names (recordAt rs (suc j) .number)) (take (suc j) rs) blank (not-false _ (not-both (eqb (recordAt rs (suc j) .op) 37) _ (t .sized) (eq-eqb _ _ o))) in
           let n = length-take (suc j) rs in
           let l = s .1 in
           let e = subst (λ (r : Record). names (recordAt rs (suc j) .number) r ≡ true) (getD-take (suc j) rs (s .0) blank (omega arith)) (s .2) in

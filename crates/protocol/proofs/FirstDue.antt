@@ -10,7 +10,7 @@ use lib.ListN.{length, getD, drop, length-append}
 use lib.Seq.{getD-append-seam, drop-append-add}
 use borrow.Author.Tests.{ltb-true, ltb-false, leb-true, leb-false, eqb-true, eqb-false, not-true, not-false, eq-eqb}
 use Rattle.protocol.specs.Format.{Record, fileLimit, records, planOf, isSkip, stepsIn}
-use Rattle.protocol.specs.Refusals.{badLength, skipTooFar, badBuffer, tooManyTurns, badTurn, Verdict, accepted, holds, refuseIf, lengthRule, skipRule, checkSkips, checkRecords, check}
+use Rattle.protocol.specs.Refusals.{badLength, skipTooFar, badBuffer, tooManyTurns, badTurn, Verdict, accepted, holds, refuseIf, lengthRule, skipRule, checkSkips, checkRecords, check, wrongLength}
 use Rattle.protocol.specs.Turns.{workersOf}
 use Rattle.protocol.specs.Calls.{Buffers, memoryLength, logLength, reportLength, workLength, turnsLimit, misfit, namesNobody, both, runVerdict}
 use Rattle.protocol.specs.WellFormed.{blank, Fitting}
@@ -19,7 +19,7 @@ use Rattle.protocol.proofs.Bools.{or-false, or-left, or-right, and-left
 use Rattle.protocol.proofs.Records.{one}
 use Rattle.protocol.proofs.Taken.{none-of}
 use Rattle.protocol.proofs.Accepted.{length-right, length-records}
-use Rattle.protocol.proofs.Covered.{nothing-due, Covers, covers-none, covers, or-cases, record-covers}
+use Rattle.protocol.proofs.Covered.{nothing-due, Covers, covers-none, covers, any-there, any-none, or-cases, record-covers}
 
 -- ---- all records, then all skips
 
@@ -81,9 +81,9 @@ records-first before (r ∷ rest) =
 length-covers : (file : List ℕ) → Covers (test badLength 0 (LengthAmiss file) ∷ []) (lengthRule (length file)) 0
 unfolding lengthRule
 length-covers file =
-    covers (eqb (length file) 0 || not (eqb (length file % 7) 0) || ltb fileLimit (length file)) badLength holds
+    covers (wrongLength (length file)) badLength holds
     (λ e. ⊎-elim (λ l. ⊎-elim (λ z. inl (eqb-true (length file) 0 z)) (λ m. inr (inl (eqb-false (length file % 7) 0 (not-true _ m)))) (or-cases (eqb (length file) 0) _ l)) (λ l. inr (inr (ltb-true fileLimit (length file) l))) (or-cases (eqb (length file) 0 || not (eqb (length file % 7) 0)) _ e))
-    (λ e d. let l = length-right file (ap (λ (b : Bool). refuseIf b badLength holds) e) in
+    (λ e d. let l = length-right file e in
     let some = l .some in
     let most = l .most in
     let bytes = l .bytes in
@@ -118,8 +118,8 @@ pub as-lent : (memory log report work : ℕ)
     → not (eqb memory memoryLength) || not (eqb log logLength) || not (eqb report reportLength) || not (eqb work workLength) ≡ false
     → AsLent memory log report work
 as-lent memory log report work e =
-    let t = none-of (not (eqb memory memoryLength)) (not (eqb log logLength)) (not (eqb report reportLength)) (not (eqb work workLength)) false (or-false _ ∙ e) in
-    (same-length _ _ (t .0), same-length _ _ (t .1), same-length _ _ (t .2), same-length _ _ (t .3))
+    let t = none-of (not (eqb memory memoryLength) || not (eqb log logLength)) (not (eqb report reportLength)) (not (eqb work workLength)) e in
+    (same-length _ _ (or-left _ _ (t .0)), same-length _ _ (or-right (not (eqb memory memoryLength)) (t .0)), same-length _ _ (t .1), same-length _ _ (t .2))
 
 pub fitting : (b : Buffers) → misfit b ≡ false → Fitting b
 fitting b e =
@@ -132,20 +132,6 @@ misfitting b e f = false≢true (sym fits ∙ e)
     fits : misfit b ≡ false
     fits = simp (eq-eqb _ _ (f .memory), eq-eqb _ _ (f .log), eq-eqb _ _ (f .report), eq-eqb _ _ (f .work))
 
--- a turn that names nobody
-stray-there : (n : ℕ) (turns : List ℕ) → namesNobody n turns ≡ true → (k : ℕ) × (k < length turns) × (n ≤ getD turns k 0)
-unfolding namesNobody
-stray-there n [] e = absurd (false≢true e)
-stray-there n (w ∷ ws) e =
-    ⊎-elim (λ h. (0, omega arith, leb-true n w h)) (λ h. let s = stray-there n ws h in (suc (s .0), omega (arith, s .1), s .2))
-    (or-cases (leb n w) (namesNobody n ws) e)
-
-stray-none : (n : ℕ) (turns : List ℕ) → namesNobody n turns ≡ false → (k : ℕ) → k < length turns → getD turns k 0 < n
-unfolding namesNobody
-stray-none n [] e k h = absurd (omega arith)
-stray-none n (w ∷ ws) e zero h = leb-false n w (or-left (leb n w) (namesNobody n ws) e)
-stray-none n (w ∷ ws) e (suc k) h = stray-none n ws (or-right (leb n w) e) k (omega arith)
-
 -- The verdict on a run is that of its first test that is due.
 pub run-first : (file turns : List ℕ) (b : Buffers) → FirstDue (runTests file turns b) (runVerdict file turns b)
 unfolding runVerdict
@@ -153,7 +139,10 @@ run-first file turns b =
     covers (misfit b) badBuffer holds (misfitting b) (λ e amiss. amiss (fitting b e)) (λ e. covers-none 0) .decides _ _
     (covers (ltb turnsLimit (length turns)) tooManyTurns holds (ltb-true _ _) (λ e d. let h = ltb-false turnsLimit (length turns) e in omega arith) (λ e. covers-none 0) .decides _ _
     (both-first (fileTests file) _ (check file) _ (check-first file)
-    (covers (namesNobody n turns) badTurn holds (stray-there n turns) (λ e d. let h = stray-none n turns e (d .0) (d .1) in let l = d .2 in omega arith) (λ e. covers-none 0) .decides [] accepted nothing-due)))
+    (covers (namesNobody n turns) badTurn holds
+    (λ e. let h = any-there (λ w. leb n w) turns 0 e in (h .0, h .1, leb-true n _ (h .2)))
+    (λ e d. omega (arith, leb-false n (getD turns (d .0) 0) (any-none (λ w. leb n w) turns 0 e (d .0) (d .1)), d .2))
+    (λ e. covers-none 0) .decides [] accepted nothing-due)))
   where
     n : ℕ
     n = workersOf (planOf file)

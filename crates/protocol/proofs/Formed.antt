@@ -19,7 +19,7 @@ use Rattle.protocol.specs.WellFormed.{blank, recordAt, PlanRecord, Barri
 use Rattle.protocol.specs.Conditions.{LengthAmiss, NoPlan, BarrierAmiss, UnknownOp, WorkerAmiss, StepBeyond, OperandOutside, SizeMissing, SkipBeyond, Test, recordTests, skipTests, over, fileTests, runTests, FirstDue}
 use Rattle.protocol.proofs.Bools.{split}
 use Rattle.protocol.proofs.Records.{one, stepsIn-append}
-use Rattle.protocol.proofs.Accepted.{accepts, length-right, length-records}
+use Rattle.protocol.proofs.Accepted.{accepts, length-ruled, length-records}
 use Rattle.protocol.proofs.Covered.{row-known}
 use Rattle.protocol.proofs.FirstDue.{check-first, run-first, fitting, misfitting}
 use Rattle.protocol.proofs.Described.{formed}
@@ -176,7 +176,7 @@ accepted-formed : (file : List ℕ) → check file ≡ accepted → WellFormed f
 unfolding check
 accepted-formed file e =
     let t = accepts (lengthRule (length file)) 0 (checkRecords [] (records file)) e in
-    let l = length-right file (t .0) in
+    let l = length-ruled file (t .0) in
     let some = l .some in
     let most = l .most in
     let bytes = l .bytes in

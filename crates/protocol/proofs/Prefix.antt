@@ -223,12 +223,12 @@ module _ (rs : List Record) (r : Record) where
       let own = eqb-true (r .register) b (and-right (isBarrier r) (eqb (r .register) b) n) in
       let new = names-new rs b (let a = t .ascends in omega arith) in
       let size = sizeIn-new rs r b new n in
-      let least = t .least in
+      let least = t .formed .least in
       record {
         found =
             anyOf-one (names b) rs r
             ∙ (ap (λ (t : Bool). t || names b r) new ∙ (n ∙ ap not (sym (ne-eqb (sizeIn (rs ++ one r) b) 0 (λ z. omega arith)))));
-        most = let h = t .most in omega arith;
+        most = let h = t .formed .most in omega arith;
       }
 
   names-barrier : (b : ℕ) → isBarrier r ≡ false → names b r ≡ false

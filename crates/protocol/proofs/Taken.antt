@@ -8,8 +8,10 @@ use native.Mathlib.Omega.{arith}
 use lib.Dec.{leb, ltb, eqb}
 use lib.ListN.{length}
 use borrow.Author.Tests.{ltb-false, leb-false, eqb-true}
-use Rattle.protocol.specs.Format.{Record, rowIn, rowOf, known, isBarrier, isStep, workersIn, stepsIn, barrierCount}
-use Rattle.protocol.specs.Refusals.{Refusal, badPlan, badBarrier, Rule, holds, refuseIf, anyOf, outside, barrierRule, operandsOutside, stepRule, laterRule}
+use Rattle.protocol.specs.Ops.{opPlanRecord, opBarrierRecord, opBarrier}
+use Rattle.protocol.specs.Format.{Record, rowIn, rowOf, known, isBarrier, isStep, workersIn, stepsIn, workersLimit, barrierCount, sizeLimit, stepsLimit}
+use Rattle.protocol.specs.Refusals.{Refusal, badPlan, badBarrier, Rule, holds, refuseIf, anyOf, outside, wrongPlan, wrongBarrier, barrierRecordRule, operandsOutside, stepRule, laterRule}
+use Rattle.protocol.specs.WellFormed.{PlanRecord, BarrierRecord}
 use Rattle.protocol.proofs.Bools.{or-left, or-right}
 use Rattle.protocol.proofs.Records.{reaches, picks, lowIn, openedIn, names}
 
@@ -27,50 +29,61 @@ pub record StepTaken (before : List Record) (r : Record) : Type 0 where
   pub noBarrier : isBarrier r ≡ false
   pub below : r .worker < workersIn before
   pub level : openedIn before ≤ suc (r .worker)
-  pub few : length (stepsIn before (r .worker)) < 128
+  pub few : length (stepsIn before (r .worker)) < stepsLimit
   pub inside : operandsOutside (rowOf (r .op)) (r .register) (r .number) ≡ false
-  pub sized : eqb (r .op) 37 && not (anyOf (names (r .number)) before) ≡ false
+  pub sized : eqb (r .op) opBarrier && not (anyOf (names (r .number)) before) ≡ false
 
 pub record BarrierTaken (before : List Record) (r : Record) : Type 0 where
   pub barrier : isBarrier r ≡ true
   pub noStep : isStep r ≡ false
   pub ascends : lowIn before ≤ r .register
   pub unopened : openedIn before ≡ 0
-  pub worker : r .worker ≡ 0
-  pub named : r .register < barrierCount
-  pub least : 1 ≤ r .number
-  pub most : r .number ≤ 8
+  pub formed : BarrierRecord r
 
 pub barrier-no-step : (r : Record) → isBarrier r ≡ true → isStep r ≡ false
 unfolding known rowIn
-barrier-no-step r e = ap known (eqb-true (r .op) 1 e)
+barrier-no-step r e = ap known (eqb-true (r .op) opBarrierRecord e)
 
--- of five tests none holds
-pub none-of : (a b c d e : Bool) → a || b || c || d || e ≡ false → (a ≡ false) × (b ≡ false) × (c ≡ false) × (d ≡ false) × (e ≡ false)
-none-of true b c d e h = absurd (true≢false h)
-none-of false true c d e h = absurd (true≢false h)
-none-of false false true d e h = absurd (true≢false h)
-none-of false false false true e h = absurd (true≢false h)
-none-of false false false false e h = (refl, refl, refl, refl, h)
+-- of three tests none holds
+pub none-of : (a b c : Bool) → a || b || c ≡ false → (a ≡ false) × (b ≡ false) × (c ≡ false)
+none-of a b c e = let t = or-left (a || b) c e in (or-left a b t, or-right a t, or-right (a || b) e)
 
-barrier-taken : (before : List Record) (r : Record) → isBarrier r ≡ true → barrierRule before r ≡ holds → BarrierTaken before r
-unfolding barrierRule
+-- the fields of a plan record and of a barrier record, by the tests of them
+pub plan-record : (r : Record) → wrongPlan r ≡ false → PlanRecord r
+plan-record r e =
+    let op = not (eqb (r .op) opPlanRecord) in
+    let workers = outside 1 workersLimit (r .worker) in
+    let t = none-of (op || workers) (not (eqb (r .register) 0)) (not (eqb (r .number) 0)) e in
+    record {
+      op = eqb-true (r .op) opPlanRecord (not-so _ (or-left op workers (t .0)));
+      least = ltb-false _ _ (or-left (ltb (r .worker) 1) _ (or-right op (t .0)));
+      most = ltb-false _ _ (or-right (ltb (r .worker) 1) (or-right op (t .0)));
+      register = eqb-true (r .register) 0 (not-so _ (t .1));
+      number = eqb-true (r .number) 0 (not-so _ (t .2));
+    }
+
+pub barrier-record : (r : Record) → isBarrier r ≡ true → wrongBarrier r ≡ false → BarrierRecord r
+barrier-record r b e =
+    let t = none-of (not (eqb (r .worker) 0)) (leb barrierCount (r .register)) (outside 1 sizeLimit (r .number)) e in
+    record {
+      op = eqb-true (r .op) opBarrierRecord b;
+      worker = eqb-true (r .worker) 0 (not-so _ (t .0));
+      barrier = leb-false _ _ (t .1);
+      least = ltb-false _ _ (or-left (ltb (r .number) 1) _ (t .2));
+      most = ltb-false _ _ (or-right (ltb (r .number) 1) (t .2));
+    }
+
+barrier-taken : (before : List Record) (r : Record) → isBarrier r ≡ true → barrierRecordRule before r ≡ holds → BarrierTaken before r
+unfolding barrierRecordRule
 barrier-taken before r b e =
     let higher = anyOf (λ q. isBarrier q && leb (r .register) (q .register)) before in
-    let size = outside 1 8 (r .number) in
-    let t =
-    none-of higher (anyOf isStep before) (not (eqb (r .worker) 0)) (leb barrierCount (r .register)) size
-    (passes (higher || anyOf isStep before || not (eqb (r .worker) 0) || leb barrierCount (r .register) || size) badBarrier holds e .0)
-    in
+    let t = none-of higher (anyOf isStep before) (wrongBarrier r) (passes (higher || anyOf isStep before || wrongBarrier r) badBarrier holds e .0) in
     record {
       barrier = b;
       noStep = barrier-no-step r b;
       ascends = ltb-false _ _ (sym (reaches isBarrier (λ q. q .register) (r .register) before) ∙ t .0);
       unopened = let h : openedIn before ≤ 0 = ltb-false _ _ (sym (picks isStep (λ q. q .worker) before) ∙ t .1) in omega arith;
-      worker = eqb-true (r .worker) 0 (not-so _ (t .2));
-      named = leb-false _ _ (t .3);
-      least = ltb-false _ _ (or-left (ltb (r .number) 1) (ltb 8 (r .number)) (t .4));
-      most = ltb-false _ _ (or-right (ltb (r .number) 1) (t .4));
+      formed = barrier-record r b (t .2);
     }
 
 step-taken : (before : List Record) (r : Record) → isBarrier r ≡ false → stepRule before r ≡ holds → StepTaken before r
@@ -94,8 +107,8 @@ step-taken before r b e =
 -- a taken record is a barrier record or a step
 pub later-taken : (before : List Record) (r : Record) → laterRule before r ≡ holds → BarrierTaken before r ⊎ StepTaken before r
 unfolding laterRule
-later-taken before r e = go (isBarrier r) refl (passes (eqb (r .op) 0) badPlan (cond (isBarrier r) (barrierRule before r) (stepRule before r)) e .1)
+later-taken before r e = go (isBarrier r) refl (passes (eqb (r .op) opPlanRecord) badPlan (cond (isBarrier r) (barrierRecordRule before r) (stepRule before r)) e .1)
   where
-    go : (b : Bool) → isBarrier r ≡ b → cond b (barrierRule before r) (stepRule before r) ≡ holds → BarrierTaken before r ⊎ StepTaken before r
+    go : (b : Bool) → isBarrier r ≡ b → cond b (barrierRecordRule before r) (stepRule before r) ≡ holds → BarrierTaken before r ⊎ StepTaken before r
     go true p q = inl (barrier-taken before r p q)
     go false p q = inr (step-taken before r p q)

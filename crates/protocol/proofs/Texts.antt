@@ -2,7 +2,7 @@
 use mathlib.Core.Path.{_≡_, refl}
 use mathlib.Core.List.{[], _∷_, map}
 use Rattle.protocol.specs.Format.{recordFrom, recordsFrom, recordCount, records, rowIn, known, stepOf, sizeIn, stepsIn, countFrom, planIn}
-use Rattle.protocol.specs.Refusals.{anyOf, lengthRule, planRule, barrierRule, operandsOutside, stepRule, laterRule, recordRule, skipRule, checkSkips, checkRecords, check}
+use Rattle.protocol.specs.Refusals.{anyOf, lengthRule, planRule, barrierRecordRule, operandsOutside, stepRule, laterRule, recordRule, skipRule, checkSkips, checkRecords, check}
 use Rattle.protocol.specs.Pages.{page, noCopies, loadByte, loadWord, storeByte, storeWord, commitFrom}
 use Rattle.protocol.specs.Steps.{newWorker, ownStep}
 use Rattle.protocol.specs.Rounds.{keep, queueOf, ruleOf, member, freed, apply, newRound}
@@ -20,5 +20,5 @@ pub texts-hold :
     ∷ "refused 1 0\n"
     ∷ []
     )
-unfolding recordFrom recordsFrom recordCount records rowIn known stepOf sizeIn stepsIn countFrom planIn anyOf lengthRule planRule barrierRule operandsOutside stepRule laterRule recordRule skipRule checkSkips checkRecords check page noCopies loadByte loadWord storeByte storeWord commitFrom newWorker ownStep keep queueOf ruleOf member freed apply newRound start allArrived can move turn play total allLeft endOf cycles digitsIn decimal line recordLine logLines endLine refusalLine listing
+unfolding recordFrom recordsFrom recordCount records rowIn known stepOf sizeIn stepsIn countFrom planIn anyOf lengthRule planRule barrierRecordRule operandsOutside stepRule laterRule recordRule skipRule checkSkips checkRecords check page noCopies loadByte loadWord storeByte storeWord commitFrom newWorker ownStep keep queueOf ruleOf member freed apply newRound start allArrived can move turn play total allLeft endOf cycles digitsIn decimal line recordLine logLines endLine refusalLine listing
 texts-hold = refl

@@ -5,7 +5,7 @@ use mathlib.Core.List.{List, [], _∷_, _++_}
 use lib.Dec.{leb, ltb, eqb}
 use lib.ListN.{length, replicate}
 use Rattle.protocol.specs.Format.{Plan, planOf}
-use Rattle.protocol.specs.Refusals.{Verdict, accepted, refused, codeOf, badBuffer, tooManyTurns, badTurn, holds, refuseIf, ruled, check}
+use Rattle.protocol.specs.Refusals.{Verdict, accepted, refused, codeOf, badBuffer, tooManyTurns, badTurn, holds, refuseIf, ruled, anyOf, check}
 use Rattle.protocol.specs.Rounds.{State}
 use Rattle.protocol.specs.Turns.{workersOf, start, play}
 use Rattle.protocol.specs.Report.{logBytes, reportBytes}
@@ -54,9 +54,8 @@ abbrev pub misfit : Buffers → Bool
 misfit b = misfitBy (length (b .memory)) (length (b .log)) (length (b .report)) (length (b .work))
 
 -- "13, a turn naming a worker not below n"
-unfoldable pub namesNobody : ℕ → List ℕ → Bool
-namesNobody n [] = false
-namesNobody n (w ∷ ws) = leb n w || namesNobody n ws
+abbrev pub namesNobody : ℕ → List ℕ → Bool
+namesNobody n turns = anyOf (λ w. leb n w) turns
 
 abbrev pub both : Verdict → Verdict → Verdict
 both accepted next = next

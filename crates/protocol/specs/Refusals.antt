@@ -53,35 +53,38 @@ abbrev pub ruled : Rule → ℕ → Verdict → Verdict
 ruled (some f) i next = refused f i
 ruled none i next = next
 
-unfoldable pub anyOf : (Record → Bool) → List Record → Bool
+-- whether a test holds of any of a list
+unfoldable pub anyOf : {A : Type 0} → (A → Bool) → List A → Bool
 anyOf t [] = false
-anyOf t (r ∷ rs) = t r || anyOf t rs
+anyOf t (x ∷ xs) = t x || anyOf t xs
 
 abbrev pub outside : ℕ → ℕ → ℕ → Bool
 outside least most k = ltb k least || ltb most k
 
 -- "1, file length 0, not a multiple of 7, or above 7,231"
+abbrev pub wrongLength : ℕ → Bool
+wrongLength bytes = eqb bytes 0 || not (eqb (bytes % recordLength) 0) || ltb fileLimit bytes
+
 unfoldable pub lengthRule : ℕ → Rule
-lengthRule bytes = refuseIf (eqb bytes 0 || not (eqb (bytes % recordLength) 0) || ltb fileLimit bytes) badLength holds
+lengthRule bytes = refuseIf (wrongLength bytes) badLength holds
 
 -- "3 first record isn't a plan record within its limits": "op 0, worker byte = count of workers n (1 to 8), register 0, number 0"
-unfoldable pub planRule : Record → Rule
-planRule r =
-    refuseIf
-    (not (eqb (r .op) opPlanRecord) || outside 1 workersLimit (r .worker) || not (eqb (r .register) 0) || not (eqb (r .number) 0))
-    badPlan
-    holds
+abbrev pub wrongPlan : Record → Bool
+wrongPlan r =
+    not (eqb (r .op) opPlanRecord) || outside 1 workersLimit (r .worker) || not (eqb (r .register) 0) || not (eqb (r .number) 0)
 
--- "4 barrier record out of order, after a step, or with any field out of range": "at most one record per barrier,
--- ascending: op 1, worker byte 0, register = barrier (0 to 7), number = size (1 to 8)"
-unfoldable pub barrierRule : List Record → Record → Rule
-barrierRule before r =
+unfoldable pub planRule : Record → Rule
+planRule r = refuseIf (wrongPlan r) badPlan holds
+
+-- "4 .. with any field out of range": "op 1, worker byte 0, register = barrier (0 to 7), number = size (1 to 8)"
+abbrev pub wrongBarrier : Record → Bool
+wrongBarrier r = not (eqb (r .worker) 0) || leb barrierCount (r .register) || outside 1 sizeLimit (r .number)
+
+-- "4 barrier record out of order, after a step, or with any field out of range": "at most one record per barrier, ascending"
+unfoldable pub barrierRecordRule : List Record → Record → Rule
+barrierRecordRule before r =
     refuseIf
-    (anyOf (λ q. isBarrier q && leb (r .register) (q .register)) before
-    || anyOf isStep before
-    || not (eqb (r .worker) 0)
-    || leb barrierCount (r .register)
-    || outside 1 sizeLimit (r .number))
+    (anyOf (λ q. isBarrier q && leb (r .register) (q .register)) before || anyOf isStep before || wrongBarrier r)
     badBarrier
     holds
 
@@ -108,7 +111,7 @@ stepRule before r =
 unfoldable pub laterRule : List Record → Record → Rule
 laterRule before r =
     refuseIf (eqb (r .op) opPlanRecord) badPlan
-    (cond (isBarrier r) (barrierRule before r) (stepRule before r))
+    (cond (isBarrier r) (barrierRecordRule before r) (stepRule before r))
 
 -- The rule of a record, by the records before it: "record by record in the order just written up to 9".
 unfoldable pub recordRule : List Record → Record → Rule

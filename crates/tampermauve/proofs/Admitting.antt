@@ -10,7 +10,7 @@ use lib.ListN.{length, getD, drop, drop-of-length-le}
 use lib.Seq.{drop-cons}
 use borrow.Author.Tests.{leb-true, leb-false, le-leb, lt-leb, eq-eqb}
 use Rattle.protocol.specs.Format.{planOf, records}
-use Rattle.protocol.specs.Refusals.{Refusal, numberOf, Verdict, accepted, refused, codeOf, check}
+use Rattle.protocol.specs.Refusals.{Refusal, numberOf, Verdict, accepted, refused, codeOf, check, anyOf}
 use Rattle.protocol.specs.Turns.{workersOf}
 use Rattle.protocol.specs.Calls.{memoryLength, logLength, reportLength, workLength, turnsLimit, both, namesNobody, verdictBy}
 use Rattle.protocol.proofs.Bools.{split, or-false}
@@ -39,7 +39,7 @@ last-test l m g r =
 -- turns, one at a time: the greatest of those seen, then what is left
 
 greater-tells : (n a b m : ℕ) (ts : List ℕ) → m ≡ max a b → namesNobody n (m ∷ ts) ≡ namesNobody n (a ∷ b ∷ ts)
-unfolding namesNobody
+unfolding anyOf
 greater-tells n a b m ts e = go (leb n a) (leb n b) refl refl
   where
     told : {t : Bool} → leb n m ≡ t → leb n m || namesNobody n ts ≡ t || namesNobody n ts
@@ -62,11 +62,11 @@ stray-step n i turns most m h e =
     ∙ ap (λ (ts : List ℕ). namesNobody n (most ∷ ts)) (sym (drop-cons turns i 0 h)))
 
 pub no-turn-left : (n i : ℕ) (turns : List ℕ) → length turns ≤ i → namesNobody n (drop i turns) ≡ false
-unfolding namesNobody
+unfolding anyOf
 no-turn-left n i turns h = ap (λ (ts : List ℕ). namesNobody n ts) (drop-of-length-le turns {i = i} h)
 
 pub stray-end : (n i : ℕ) (turns : List ℕ) (most : ℕ) → length turns ≤ i → namesNobody n (most ∷ drop i turns) ≡ leb n most
-unfolding namesNobody
+unfolding anyOf
 stray-end n i turns most h = ap (λ (b : Bool). leb n most || b) (no-turn-left n i turns h) ∙ or-false (leb n most)
 
 -- the number 0 is no refusal's

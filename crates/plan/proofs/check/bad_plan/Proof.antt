@@ -2,14 +2,16 @@ use Prim.Native.Nat.{_≤_}
 use mathlib.Core.Bool.{not}
 use mathlib.Core.Path.{_≡_}
 use lib.Dec.{eqb}
-use Rattle.plan.specs.Checking.{refusesPlan}
+use Rattle.protocol.specs.Refusals.{wrongPlan}
+use Rattle.plan.specs.Answer.{recordOf}
 use Rattle.plan.specs.declared.decode.Record.{Record}
+use borrow.Author.Needs.{needs}
 use borrow.Author.Tests.{lt-ltb, le-ltb, eq-eqb, ne-eqb}
 use Rattle.plan.proofs.check.bad_plan.Statement.{statement}
 use Rattle.plan.proofs.check.bad_plan.Tie as tie
 
 -- the number decides where all else is right
-last-test : (r : Record) → r .op ≡ 0 → 1 ≤ r .worker → r .worker ≤ 8 → r .register ≡ 0 → not (eqb (r .number) 0) ≡ refusesPlan r
+last-test : (r : Record) → r .op ≡ 0 → 1 ≤ r .worker → r .worker ≤ 8 → r .register ≡ 0 → not (eqb (r .number) 0) ≡ wrongPlan (recordOf r)
 last-test r o l m g = simp (eq-eqb _ _ o, le-ltb _ _ l, le-ltb _ _ m, eq-eqb _ _ g)
 
 returns : tie.Need-returns
@@ -17,6 +19,9 @@ returns c = simp (ne-eqb _ _ (c .if1 .taken))
 
 returns-2 : tie.Need-returns-2
 returns-2 c = simp (eq-eqb _ _ (c .before .before .if1 .left), lt-ltb _ _ (c .if2 .taken))
+
+cast-if3 : tie.Need-cast-if3
+cast-if3 c = search needs
 
 returns-3 : tie.Need-returns-3
 returns-3 c = simp (eq-eqb _ _ (c .before .before .before .before .if1 .left), le-ltb _ _ (c .before .before .if2 .left), lt-ltb _ _ (c .if3 .taken))
@@ -28,4 +33,4 @@ returns-5 : tie.Need-returns-5
 returns-5 c = last-test (c .before .before .before .before .before .before .before .before .before .args .r) (c .before .before .before .before .before .before .before .if1 .left) (c .before .before .before .before .before .if2 .left) (c .before .before .before .if3 .left) (c .before .if4 .left)
 
 pub bad-plan-spec : {M : Type 1} → statement M
-bad-plan-spec = tie.close (tie.spec returns returns-2 returns-3 returns-4 returns-5)
+bad-plan-spec = tie.close (tie.spec returns returns-2 cast-if3 returns-3 returns-4 returns-5)

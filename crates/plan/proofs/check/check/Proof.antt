@@ -1,20 +1,24 @@
--- `check`: the rules in the paper's order, each part of the file by the function that reads it.
+-- `plan::check::check` meets its contract: the rules in the paper's order, each part of the file by the function that reads it.
 use borrow.Author.Needs.{needs}
-use Prim.Native.Nat.{ℕ, _/_}
+use Prim.Native.Nat.{ℕ, _/_, _≤_, _<_}
 use native.Mathlib.Omega.{arith}
 use mathlib.Core.Bool.{Bool, false}
 use mathlib.Core.Path.{_≡_, refl, ap, _∙_, sym}
 use mathlib.Core.List.{List}
 use lib.ListN.{length}
+use Rattle.protocol.specs.Format.{recordLength, recordCount}
 use Rattle.protocol.specs.Refusals as protocol
+use Rattle.protocol.specs.Refusals.{wrongLength, refuseIf, holds, ruled}
 use Rattle.protocol.specs.Calls.{both}
-use Rattle.plan.specs.Answer.{decodedOf, verdictOf}
-use Rattle.plan.specs.Checking.{refusesLength}
-use Rattle.plan.specs.Reading.{recordAt, before, verdictFrom}
+use Rattle.protocol.specs.WellFormed.{PlanRecord}
+use Rattle.protocol.proofs.Accepted.{Length, length-right}
+use Rattle.protocol.proofs.Taken.{plan-record}
+use Rattle.plan.specs.Answer.{recordOf, decodedOf, verdictOf}
+use Rattle.plan.specs.Reading.{fileRecord, before, verdictFrom}
 use Rattle.plan.specs.declared.answer.Verdict.{Verdict}
 use Rattle.plan.specs.declared.decode.Decoded.the-variants.{Read}
-use Rattle.plan.proofs.Readings.{Body, told}
-use Rattle.plan.proofs.Checks.{Sized, too-short, sized, unmarked-first, plan-step, PlanTaken, plan-taken, steps-so-far, laid, laid-out, turned-down}
+use Rattle.plan.proofs.Readings.{Body, told, unmarked-rule, rules-first}
+use Rattle.plan.proofs.Checks.{by-length, by-first, plan-rule, steps-so-far, skip-checking, laid-out, turned-down}
 use Rattle.plan.proofs.check.check.Statement.{statement}
 use Rattle.plan.proofs.check.check.Tie as tie
 
@@ -25,7 +29,7 @@ refused-requires : tie.Need-refused-requires
 refused-requires c κs = search needs
 
 returns : tie.Need-returns
-returns c = turned-down (c .refused .ensures) (too-short _ (sym (c .before .before .bad-length .ensures) ∙ c .before .if1 .taken))
+returns c = turned-down (c .refused .ensures) (by-length _ (sym (c .before .before .bad-length .ensures) ∙ c .before .if1 .taken))
 
 -- a file of a length that is taken
 module _ (c : tie.Else1) where
@@ -33,16 +37,21 @@ module _ (c : tie.Else1) where
   file = c .before .before .before .args .file .now
 
   abbrev count : ℕ
-  count = length file / 7
+  count = length file / recordLength
 
-  fine : refusesLength (length file) ≡ false
+  fine : wrongLength (length file) ≡ false
   fine = sym (c .before .bad-length .ensures) ∙ c .if1 .left
 
-  size : Sized file
-  size = sized file fine
+  some : 1 ≤ count
+  unfolding recordCount
+  some = length-right file fine .some
+
+  few : count ≤ 1033
+  unfolding recordCount
+  few = length-right file fine .most
 
 decode-requires : tie.Need-decode-requires
-decode-requires c κs = let s = size c in omega arith
+decode-requires c κs = omega (arith, some c)
 
 enum-known-first : tie.Need-enum-known-first
 enum-known-first c = search needs
@@ -54,7 +63,10 @@ refused-requires-2 : tie.Need-refused-requires-2
 refused-requires-2 c κs = search needs
 
 returns-2 : tie.Need-returns-2
-returns-2 c = turned-down (c .refused2 .ensures) (unmarked-first _ (fine (c .before .before .before .before)) (sym (c .before .before .before .decode .ensures) ∙ c .before .enum-told .given .1))
+returns-2 c =
+    let e = c .before .before .before .before in
+    turned-down (c .refused2 .ensures)
+    (by-first (file e) (fine e) (some e) (unmarked-rule _ _ (sym (c .before .before .before .decode .ensures) ∙ c .before .enum-told .given .1)))
 
 bad-plan-requires : tie.Need-bad-plan-requires
 bad-plan-requires c κs = search needs
@@ -67,31 +79,31 @@ module _ (c : tie.After-bad-plan) where
   abbrev first : Body
   first = c .before .before .first .given .0 .0
 
-  first-read : decodedOf (recordAt (file sizedAt) 0) ≡ Read first
+  first-read : decodedOf (fileRecord (file sizedAt) 0) ≡ Read first
   first-read = sym (c .before .before .before .before .decode .ensures) ∙ c .before .before .first .given .1
 
-  same-worker : first .worker ≡ recordAt (file sizedAt) 0 .worker
-  same-worker = ap (λ (b : Body). b .worker) (told (recordAt (file sizedAt) 0) first first-read .1)
+  same-worker : first .worker ≡ fileRecord (file sizedAt) 0 .worker
+  same-worker = sym (ap (λ r. r .worker) (told (fileRecord (file sizedAt) 0) first-read))
 
-  by-plan : (t : Bool) → c .bad-plan .result ≡ t
-      → protocol.check (file sizedAt) ≡ protocol.ruled (protocol.refuseIf t protocol.badPlan protocol.holds) 0 (verdictFrom (file sizedAt) (count sizedAt) 1)
-  by-plan t e = plan-step (file sizedAt) (fine sizedAt) first t first-read (sym (c .bad-plan .ensures) ∙ e)
+  by-plan : {t : Bool} → c .bad-plan .result ≡ t
+      → protocol.check (file sizedAt) ≡ ruled (refuseIf t protocol.badPlan holds) 0 (verdictFrom (file sizedAt) (count sizedAt) 1)
+  by-plan e = by-first (file sizedAt) (fine sizedAt) (some sizedAt) (plan-rule (file sizedAt) first-read (sym (c .bad-plan .ensures) ∙ e))
 
 refused-requires-3 : tie.Need-refused-requires-3
 refused-requires-3 c κs = search needs
 
 returns-3 : tie.Need-returns-3
-returns-3 c = turned-down (c .refused3 .ensures) (by-plan (c .before .before) _ (c .before .if2 .taken))
+returns-3 c = turned-down (c .refused3 .ensures) (by-plan (c .before .before) (c .before .if2 .taken))
 
 -- a plan record that is taken
-taken : (c : tie.Else2) → PlanTaken (first (c .before))
-taken c = plan-taken _ (sym (c .before .bad-plan .ensures) ∙ c .if2 .left)
+taken : (c : tie.Else2) → PlanRecord (recordOf (first (c .before)))
+taken c = plan-record _ (sym (c .before .bad-plan .ensures) ∙ c .if2 .left)
 
 read-barriers-requires : tie.Need-read-barriers-requires
 read-barriers-requires c κs =
     let p = c .before in
-    let s = size (sizedAt p) in
-    (omega arith, (s .some, ap (λ (b : Body). b .op) (sym (told (recordAt (file (sizedAt p)) 0) _ (first-read p) .1)) ∙ taken c .op))
+    let s = sizedAt p in
+    (omega arith, (some s, rules-first (file s) (plan-rule (file s) (first-read p) (sym (p .bad-plan .ensures) ∙ c .if2 .left))))
 
 enum-known-verdict : tie.Need-enum-known-verdict
 enum-known-verdict c = search needs
@@ -99,8 +111,9 @@ enum-known-verdict c = search needs
 -- the verdict, from the barrier records on
 from-barriers : (c : tie.After-read-barriers)
     → protocol.check (file (sizedAt (c .before .before)))
-    ≡ both (verdictOf (c .read-barriers .result .verdict)) (verdictFrom (file (sizedAt (c .before .before))) (count (sizedAt (c .before .before))) (c .read-barriers .result .next))
-from-barriers c = by-plan (c .before .before) _ (c .before .if2 .left) ∙ sym (c .read-barriers .ensures .verdict)
+    ≡ both (verdictOf (c .read-barriers .result .verdict))
+    (verdictFrom (file (sizedAt (c .before .before))) (count (sizedAt (c .before .before))) (c .read-barriers .result .next))
+from-barriers c = by-plan (c .before .before) (c .before .if2 .left) ∙ sym (c .read-barriers .ensures .verdict)
 
 refused-requires-4 : tie.Need-refused-requires-4
 refused-requires-4 c κs = search needs
@@ -110,7 +123,8 @@ returns-4 c =
     let r = c .before .before .before .before in
     let f = file (sizedAt (r .before .before)) in
     turned-down (c .refused4 .ensures)
-    (from-barriers r ∙ ap (λ (v : Verdict). both (verdictOf v) (verdictFrom f (length f / 7) (r .read-barriers .result .next))) (c .before .before .verdict .given .1))
+    (from-barriers r
+    ∙ ap (λ (v : Verdict). both (verdictOf v) (verdictFrom f (length f / recordLength) (r .read-barriers .result .next))) (c .before .before .verdict .given .1))
 
 enum-told-2 : tie.Need-enum-told-2
 enum-told-2 c = search needs
@@ -123,66 +137,61 @@ module _ (c : tie.After-enum-told2) where
   abbrev plan : List ℕ
   plan = file (sizedAt planned)
 
-  from-steps : protocol.check plan ≡ verdictFrom plan (length plan / 7) (c .before .before .read-barriers .result .next)
+  from-steps : protocol.check plan ≡ verdictFrom plan (length plan / recordLength) (c .before .before .read-barriers .result .next)
   from-steps =
       from-barriers (c .before .before)
-      ∙ ap (λ (v : Verdict). both (verdictOf v) (verdictFrom plan (length plan / 7) (c .before .before .read-barriers .result .next))) (c .enum-told2 .given .1)
+      ∙ ap (λ (v : Verdict). both (verdictOf v) (verdictFrom plan (length plan / recordLength) (c .before .before .read-barriers .result .next))) (c .enum-told2 .given .1)
 
 read-steps-requires : tie.Need-read-steps-requires
 read-steps-requires c κs =
     let b = c .before .before .before in
-    let s = size (sizedAt (planned b)) in (
-      omega arith,
-      (
-        steps-so-far _ _ _ (b .before .before .read-barriers .result) (b .before .before .read-barriers .ensures) (ap verdictOf (b .enum-told2 .given .1)) (sym (same-worker (planned b)))
-            (taken (b .before .before .before) .most),
-        refl,
-      ),
-    )
+    let read = b .before .before .read-barriers in
+    let barriers = steps-so-far (read .ensures) (ap verdictOf (b .enum-told2 .given .1)) (sym (same-worker (planned b))) (taken (b .before .before .before) .most) in
+    (omega arith, (barriers, refl))
 
 enum-known-verdict-2 : tie.Need-enum-known-verdict-2
 enum-known-verdict-2 c = search needs
 
 -- the verdict, from the skips on
-from-skips : (c : tie.After-read-steps)
-    → protocol.check (plan (c .before .before .before .before))
-    ≡ both (verdictOf (c .read-steps .result)) (protocol.checkSkips 0 (before (plan (c .before .before .before .before)) (length (plan (c .before .before .before .before)) / 7)))
-from-skips c = from-steps (c .before .before .before .before) ∙ sym (c .read-steps .ensures .verdict)
+module _ (c : tie.After-read-steps) where
+  abbrev read : List ℕ
+  read = plan (c .before .before .before .before)
+
+  from-skips : protocol.check read ≡ both (verdictOf (c .read-steps .result)) (protocol.checkSkips 0 (before read (length read / recordLength)))
+  from-skips = from-steps (c .before .before .before .before) ∙ sym (c .read-steps .ensures .verdict)
+
+  from-skips-by : {v : Verdict} → c .read-steps .result ≡ v
+      → protocol.check read ≡ both (verdictOf v) (protocol.checkSkips 0 (before read (length read / recordLength)))
+  from-skips-by e =
+      from-skips ∙ ap (λ (v : Verdict). both (verdictOf v) (protocol.checkSkips 0 (before read (length read / recordLength)))) e
 
 refused-requires-5 : tie.Need-refused-requires-5
 refused-requires-5 c κs = search needs
 
 returns-5 : tie.Need-returns-5
-returns-5 c =
-    let r = c .before .before .before .before in
-    let f = plan (r .before .before .before .before) in
-    turned-down (c .refused5 .ensures)
-    (from-skips r ∙ ap (λ (v : Verdict). both (verdictOf v) (protocol.checkSkips 0 (before f (length f / 7)))) (c .before .before .verdict2 .given .1))
+returns-5 c = turned-down (c .refused5 .ensures) (from-skips-by (c .before .before .before .before) (c .before .before .verdict2 .given .1))
 
 enum-told-3 : tie.Need-enum-told-3
 enum-told-3 c = search needs
 
 check-skips-requires : tie.Need-check-skips-requires
 check-skips-requires c κs =
-    let r = c .before .before .before in
-    let b = r .before .before .before .before in
-    let s = size (sizedAt (planned b)) in (
-      omega arith,
-      (
-        omega arith,
-        laid _ _ _ _ _ _ (r .read-steps .ensures) (ap verdictOf (c .before .enum-told3 .given .1)) s (sym (same-worker (planned b))) (taken (b .before .before .before) .most),
-      ),
-    )
+    let e = c .before in
+    let s = sizedAt (planned (e .before .before .before .before .before .before)) in
+    let all = e .before .before .read-steps .ensures .read (ap verdictOf (e .enum-told3 .given .1)) in
+    (omega arith, (omega (arith, few s), skip-checking all (some s)))
 
 returns-6 : tie.Need-returns-6
 returns-6 c =
-    let r = c .before .before .before .before in
+    let e = c .before .before in
+    let r = e .before .before in
     let b = r .before .before .before .before in
-    let ok = ap verdictOf (c .before .before .enum-told3 .given .1) in
-    let f = plan b in
+    let ok = e .enum-told3 .given .1 in
     record {
-      verdict = c .check-skips .ensures ∙ sym (from-skips r ∙ ap (λ (v : protocol.Verdict). both v (protocol.checkSkips 0 (before f (length f / 7)))) ok);
-      layout = λ q. laid-out _ _ _ _ _ _ (r .read-steps .ensures) ok (size (sizedAt (planned b))) (same-worker (planned b)) (b .before .before .read-barriers .ensures .sizes .eight);
+      verdict = c .check-skips .ensures ∙ sym (from-skips-by r ok);
+      layout = λ q.
+          laid-out (r .read-steps .ensures .read (ap verdictOf ok)) (some (sizedAt (planned b))) (same-worker (planned b)) (b .before .before .read-barriers .ensures .barriers .size)
+          (r .read-steps .ensures .size);
     }
 
 pub check-spec : {M : Type 1} → statement M

@@ -6,19 +6,19 @@ use mathlib.Core.Path.{refl, _∙_}
 use native.Mathlib.Decide.{ℕ-discrete}
 use lib.ListN.{set, length-set}
 use lib.Seq.{getD-set-same, getD-set-other}
-use Rattle.plan.specs.Stepping.{Opened}
+use Rattle.plan.specs.Stepping.{WorkersOpened}
 use Rattle.plan.proofs.steps.open_workers.Statement.{statement}
 use Rattle.plan.proofs.steps.open_workers.Tie as tie
 
 abbrev Inv-loop : tie.InvT-loop
 Inv-loop firsts₀ opened worker i k₀ firsts k =
-    (opened ≤ k) × (k ≤ max opened (worker + 1)) × Opened firsts₀ opened k i firsts
+    (opened ≤ k) × (k ≤ max opened (worker + 1)) × WorkersOpened firsts₀ opened k i firsts
 
 abbrev μ-loop : tie.MeasureT-loop
 μ-loop firsts₀ opened worker i k₀ firsts k = worker + 1 - k
 
 -- one more worker begins at record i
-more : (old : List ℕ) (opened k i : ℕ) (new : List ℕ) → opened ≤ k → Opened old opened k i new → Opened old opened (k + 1) i (set new k i)
+more : (old : List ℕ) (opened k i : ℕ) (new : List ℕ) → opened ≤ k → WorkersOpened old opened k i new → WorkersOpened old opened (k + 1) i (set new k i)
 more old opened k i new h o =
     record {
       size = length-set new k i ∙ o .size;

@@ -1,34 +1,35 @@
+-- `plan::steps::read_by_table` meets its contract: what is left of the check is the same at each record, and what is kept is right.
 use native.Mathlib.Omega.{arith}
 use borrow.Author.Needs.{needs}
 use Prim.Native.Nat.{ℕ, _+_, _-_, _<_, _≤_}
-use mathlib.Core.Bool.{false}
 use mathlib.Core.Path.{_≡_, refl, ap, _∙_, sym, subst, subst⁻¹}
+use mathlib.Core.Bool.{false}
+use mathlib.Core.List.{List}
+use mathlib.Core.Option.{some}
 use lib.ListN.{getD}
-use Rattle.protocol.specs.Format.{isBarrier}
+use Rattle.protocol.specs.Format.{isBarrier, table, workersLimit}
 use Rattle.protocol.specs.Refusals as protocol
-use Rattle.plan.specs.Answer.{decodedOf, ruleOf}
-use Rattle.plan.specs.Reading.{recordAt, before, verdictFrom}
-use Rattle.plan.specs.Stepping.{laterRuling}
-use Rattle.plan.specs.declared.table.Row.{Row}
-use Rattle.plan.specs.declared.decode.Record.{Record}
-use Rattle.plan.specs.declared.decode.Decoded.the-variants.{Unmarked}
-use Rattle.plan.proofs.Readings.{length-before, unmarked-step, not-refused}
-use Rattle.plan.proofs.Stepped.{Kept, OneStep, kept-first, inside, later-step, worker-below, step-more, all-read, firsts-right}
+use Rattle.format.specs.Table.{limits, placeIn}
+use Rattle.format.specs.declared.table.Row.{Row}
+use Rattle.format.proofs.Rows.{place-inside, no-row, row-at}
+use Rattle.plan.specs.Answer.{ruleAs}
+use Rattle.plan.specs.Reading.{fileRecord, verdictFrom}
+use Rattle.plan.specs.Stepping.{keptRule}
+use Rattle.plan.proofs.Readings.{Body, verdict-step, unmarked-rule, not-refused}
+use Rattle.plan.proofs.Stepped.{Kept, OneStep, kept-first, inside, same-rule, no-step-rule, worker-below, step-more, all-read, records-read}
 use Rattle.plan.proofs.steps.read_by_table.Statement.{statement}
 use Rattle.plan.proofs.steps.read_by_table.Tie as tie
 
 abbrev Inv-loop : tie.InvT-loop
 Inv-loop file count n sizes start rows firsts₀ opened₀ i₀ firsts opened i =
-    (start ≤ i) × (i ≤ count) × (opened ≤ n) × (opened ≡ 0 → i ≡ start) × Kept (before file i) n sizes opened firsts
+    (i ≤ count) × (opened ≤ n) × (opened ≡ 0 → i ≡ start) × Kept file i n sizes opened firsts
     × (verdictFrom file count i ≡ verdictFrom file count start)
 
 abbrev μ-loop : tie.MeasureT-loop
 μ-loop file count n sizes start rows firsts₀ opened₀ i₀ firsts opened i = count - i
 
 loop-holds : tie.Need-loop-holds Inv-loop μ-loop
-loop-holds c =
-    let so = c .before .pre .1 .1 .0 in
-    (omega arith, so .most, omega arith, λ z. refl, kept-first (c .before .args .file .now) (c .before .args .count) (c .before .args .n) (c .before .args .sizes .now) (c .before .args .start) (c .before .args .firsts .now) so (c .before .pre .1 .1 .1), refl)
+loop-holds c = let so = c .before .pre .1 .1 .0 in (so .most, omega arith, λ z. refl, kept-first so (c .before .pre .1 .1 .1), refl)
 
 mul-decode : tie.Need-mul-decode Inv-loop μ-loop
 mul-decode c = search needs
@@ -44,101 +45,147 @@ enum-told c = search needs
 
 returns : tie.Need-returns Inv-loop μ-loop
 returns c =
-    let a = c .before .before .before .before .before .before .args in
-    let so = c .before .before .before .before .before .before .pre .1 .1 .0 in
-    let file = a .file .now in
-    let i = c .before .before .before .before .loop .i in
-    let inv = c .before .before .before .before .loop .inv in
-    let e : decodedOf (recordAt file i) ≡ Unmarked = sym (c .before .before .decode .ensures) ∙ c .enum-told .given .1 in
-    let least : 1 ≤ i = let l = so .least in let m = inv .0 in omega arith in
+    let in-loop = c .before .before .before in
+    let inv = in-loop .before .loop .inv in
     record {
-      verdict = sym (unmarked-step file (a .count) i least (c .before .before .before .loop-test .taken) e) ∙ inv .5;
-      nine = inv .4 .nine;
+      verdict =
+          sym (verdict-step _ _ _ (in-loop .loop-test .taken) (unmarked-rule _ _ (sym (c .before .before .decode .ensures) ∙ c .enum-told .given .1)))
+          ∙ inv .4;
+      size = inv .3 .size;
       read = λ q. not-refused _ _ q;
-      right = λ q. not-refused _ _ q;
-      sizesRight = λ q. not-refused _ _ q;
     }
 
 place-requires : tie.Need-place-requires Inv-loop μ-loop
 place-requires c κs = search needs
 
-mul-row : tie.Need-mul-row Inv-loop μ-loop
-mul-row c = search needs
+no-step-requires : tie.Need-no-step-requires Inv-loop μ-loop
+no-step-requires c κs = search needs
 
-array-copy-out-row : tie.Need-array-copy-out-row Inv-loop μ-loop
-array-copy-out-row c = c .place .ensures .1
+-- the record at hand
+module _ (c : tie.After-place Inv-loop μ-loop) where
+  abbrev read : tie.After-r Inv-loop μ-loop
+  read = c .before .before
 
-later-ruling-requires : tie.Need-later-ruling-requires Inv-loop μ-loop
-later-ruling-requires c κs =
-    let a = c .before .before .before .before .before .before .before .before .before .before .args in
-    let pre = c .before .before .before .before .before .before .before .before .before .before .pre in
-    let so = pre .1 .1 .0 in
-    let i = c .before .before .before .before .before .before .before .before .loop .i in
-    let inv = c .before .before .before .before .before .before .before .before .loop .inv in
-    let row = ap (λ (k : ℕ). getD {A = Row} (a .t1) k (0, 0, 0)) (c .before .before .place .ensures .0) ∙ pre .0 (c .before .before .before .before .r .given .0 .0 .op) (omega arith) in
-    (row, (so .eight, (inv .2, λ w h. let l = inside _ _ _ _ _ (inv .4) (so .eight) w h in let m = length-before (a .file .now) i in omega arith)))
+  abbrev in-loop : tie.In-loop Inv-loop μ-loop
+  in-loop = read .before .before .before
 
-enum-known-ruling : tie.Need-enum-known-ruling Inv-loop μ-loop
-enum-known-ruling c = search needs
-
--- the step record at hand, from its ruling on
-module _ (c : tie.After-later-ruling Inv-loop μ-loop) where
   abbrev at : tie.At-loop Inv-loop μ-loop
-  at = c .before .before .before .before .before .before .before .before .before
+  at = in-loop .before
 
   abbrev start : tie.Start Inv-loop μ-loop
   start = at .before .before
 
-  abbrev body : Record
-  body = c .before .before .before .before .before .r .given .0 .0
+  abbrev body : Body
+  body = read .r .given .0 .0
 
-  one-step : OneStep (start .args .file .now) (start .args .count) (start .args .n) (start .args .sizes .now) (at .loop .opened) (at .loop .firsts) (at .loop .i) body
+  one-step : OneStep (start .args .file .now) (at .loop .i) (start .args .n) (start .args .sizes .now) (at .loop .opened) (at .loop .firsts) body
   one-step =
       let so = start .pre .1 .1 .0 in
       let inv = at .loop .inv in
-      let most = c .before .before .before .before .before .before .before .before .loop-test .taken in
       record {
-        least = omega (arith, so .least, inv .0);
-        most = most;
-        eight = so .eight;
-        kept = inv .4;
-        noBarrier = λ z. subst⁻¹ (λ (j : ℕ). isBarrier (recordAt (start .args .file .now) j) ≡ false) (inv .3 z) (so .noBarrier (omega (arith, inv .3 z, most)));
-        read = sym (c .before .before .before .before .before .before .before .decode .ensures) ∙ c .before .before .before .before .before .r .given .1;
+        kept = inv .3;
+        noBarrier = λ z.
+            subst⁻¹ (λ (j : ℕ). isBarrier (fileRecord (start .args .file .now) j) ≡ false) (inv .2 z)
+            (so .noBarrier (omega (arith, inv .2 z, in-loop .loop-test .taken)));
+        decoded = sym (read .before .before .decode .ensures) ∙ read .r .given .1;
       }
 
-  taken : {x : protocol.Rule} → ruleOf (c .later-ruling .result) ≡ x
-      → laterRuling (start .args .n) (at .loop .opened) (start .args .sizes .now) (at .loop .firsts) (at .loop .i) body ≡ x
-  taken e = sym (c .later-ruling .ensures) ∙ e
-
-  goes-on : {x : protocol.Rule} → ruleOf (c .later-ruling .result) ≡ x
+  goes-on : {x : protocol.Rule}
+      → keptRule (start .args .n) (at .loop .opened) (start .args .sizes .now) (at .loop .firsts) (at .loop .i) body ≡ x
       → protocol.ruled x (at .loop .i) (verdictFrom (start .args .file .now) (start .args .count) (at .loop .i + 1))
       ≡ verdictFrom (start .args .file .now) (start .args .count) (start .args .start)
-  goes-on e = sym (later-step one-step (taken e)) ∙ at .loop .inv .5
+  goes-on e = sym (verdict-step _ _ _ (in-loop .loop-test .taken) (same-rule one-step ∙ e)) ∙ at .loop .inv .4
 
-  fits : ruleOf (c .later-ruling .result) ≡ protocol.holds → body .worker < 8
-  fits e = omega (arith, worker-below one-step (taken e), one-step .eight)
+  fits : keptRule (start .args .n) (at .loop .opened) (start .args .sizes .now) (at .loop .firsts) (at .loop .i) body ≡ protocol.holds
+      → body .worker < workersLimit
+  fits e = omega (arith, worker-below one-step e, at .loop .inv .3 .few)
 
 returns-2 : tie.Need-returns-2 Inv-loop μ-loop
 returns-2 c =
+    let p = c .before .before in
     record {
-      verdict = goes-on (c .before .before .before) (ap ruleOf (c .before .ruling .given .1));
-      nine = one-step (c .before .before .before) .kept .nine;
+      verdict =
+          goes-on p (no-step-rule (one-step p) (no-row (body p .op) (sym (p .place .ensures) ∙ c .before .if1 .taken)) ∙ ap some (sym (c .no-step .ensures)));
+      size = at p .loop .inv .3 .size;
       read = λ q. not-refused _ _ q;
-      right = λ q. not-refused _ _ q;
-      sizesRight = λ q. not-refused _ _ q;
+    }
+
+-- an op that has a row
+has-row : (c : tie.Else1 Inv-loop μ-loop) → c .before .place .result < 14
+has-row c = omega (arith, place-inside (body (c .before) .op), c .before .place .ensures, c .if1 .left)
+
+mul-t19 : tie.Need-mul-t19 Inv-loop μ-loop
+mul-t19 c = omega (arith, has-row c)
+
+element-copy-out-t24 : tie.Need-element-copy-out-t24 Inv-loop μ-loop
+element-copy-out-t24 c = has-row c
+
+mul-t25 : tie.Need-mul-t25 Inv-loop μ-loop
+mul-t25 c = omega (arith, has-row c)
+
+element-copy-out-t28 : tie.Need-element-copy-out-t28 Inv-loop μ-loop
+element-copy-out-t28 c = has-row c
+
+mul-t29 : tie.Need-mul-t29 Inv-loop μ-loop
+mul-t29 c = omega (arith, has-row c)
+
+element-copy-out-t32 : tie.Need-element-copy-out-t32 Inv-loop μ-loop
+element-copy-out-t32 c = has-row c
+
+mul-t33 : tie.Need-mul-t33 Inv-loop μ-loop
+mul-t33 c = omega (arith, has-row c)
+
+element-copy-out-t36 : tie.Need-element-copy-out-t36 Inv-loop μ-loop
+element-copy-out-t36 c = has-row c
+
+step-rule-requires : tie.Need-step-rule-requires Inv-loop μ-loop
+step-rule-requires c κs =
+    let e = c .before in
+    let p = e .before in
+    let k = p .place .result in
+    let d : Row = record { op = 0; registers = 0; least = 0; most = 0 } in
+    let same = p .place .ensures in
+    let row =
+    row-at (body p .op) d (let h = has-row e in omega arith)
+    ∙ (ap (λ (k : ℕ). some (getD limits k d)) (sym same) ∙ ap (λ (rows : List Row). some (getD rows k d)) (sym (start p .pre .0))) in
+    let inv = at p .loop .inv in
+    (row, (inv .3 .few, (inv .1, inside (inv .3))))
+
+-- the place of the rule's record
+abbrev placed : tie.After-step-rule Inv-loop μ-loop → tie.After-place Inv-loop μ-loop
+placed c = c .before .before .before
+
+enum-known-rule : tie.Need-enum-known-rule Inv-loop μ-loop
+enum-known-rule c = search needs
+
+returns-3 : tie.Need-returns-3 Inv-loop μ-loop
+returns-3 c =
+    let s = c .before .before .before in
+    record {
+      verdict = goes-on (placed s) (sym (s .step-rule .ensures) ∙ ap ruleAs (c .before .rule .given .1));
+      size = at (placed s) .loop .inv .3 .size;
+      read = λ q. not-refused _ _ q;
     }
 
 enum-told-2 : tie.Need-enum-told-2 Inv-loop μ-loop
 enum-told-2 c = search needs
 
+-- a step that is taken
+module _ (c : tie.After-enum-told2 Inv-loop μ-loop) where
+  abbrev step : tie.After-place Inv-loop μ-loop
+  step = placed (c .before .before)
+
+  passed : keptRule (start step .args .n) (at step .loop .opened) (start step .args .sizes .now) (at step .loop .firsts) (at step .loop .i) (body step) ≡ protocol.holds
+  passed = sym (c .before .before .step-rule .ensures) ∙ ap ruleAs (c .enum-told2 .given .1)
+
 cast-worker : tie.Need-cast-worker Inv-loop μ-loop
 cast-worker c = search needs
 
 open-workers-requires : tie.Need-open-workers-requires Inv-loop μ-loop
-open-workers-requires c κs = omega (arith, fits (c .before .before .before .before) (ap ruleOf (c .before .before .enum-told2 .given .1)))
+open-workers-requires c κs = omega (arith, fits (step (c .before .before)) (passed (c .before .before)))
 
 add-opened : tie.Need-add-opened Inv-loop μ-loop
-add-opened c = omega (arith, fits (c .before .before .before .before .before) (ap ruleOf (c .before .before .before .enum-told2 .given .1)))
+add-opened c = omega (arith, fits (step (c .before .before .before)) (passed (c .before .before .before)))
 
 add-i : tie.Need-add-i Inv-loop μ-loop
 add-i c = search needs
@@ -148,35 +195,28 @@ loop-less c = search needs
 
 loop-again : tie.Need-loop-again Inv-loop μ-loop
 loop-again c =
-    let l = c .before .before .before .before .before in
-    let rule = ap ruleOf (c .before .before .before .enum-told2 .given .1) in
-    let below = worker-below (one-step l) (taken l rule) in (
-      omega arith,
+    let t = c .before .before .before in
+    let below = worker-below (one-step (step t)) (passed t) in (
       omega arith,
       omega arith,
       λ z. absurd (omega arith),
-      step-more (one-step l) (taken l rule) (c .open-workers .ensures),
-      goes-on l rule,
+      step-more (one-step (step t)) (passed t) (c .open-workers .ensures),
+      goes-on (step t) (passed t),
     )
 
 open-workers-requires-2 : tie.Need-open-workers-requires-2 Inv-loop μ-loop
 open-workers-requires-2 c κs = search needs
 
-returns-3 : tie.Need-returns-3 Inv-loop μ-loop
-returns-3 c =
-    let a = c .before .before .before .before .before .args in
-    let so = c .before .before .before .before .before .pre .1 .1 .0 in
-    let file = a .file .now in
-    let i = c .before .before .before .loop .i in
-    let inv = c .before .before .before .loop .inv in
-    let at : i ≡ a .count = let l = c .before .before .loop-test .left in let m = inv .1 in omega arith in
-    let k = subst (λ (j : ℕ). Kept (before file j) (a .n) (a .sizes .now) (c .before .before .before .loop .opened) (c .before .before .before .loop .firsts)) at (inv .4) in
+returns-4 : tie.Need-returns-4 Inv-loop μ-loop
+returns-4 c =
+    let l = c .before .before in
+    let inv = l .before .loop .inv in
+    let a = l .before .before .before .args in
+    let all : l .before .loop .i ≡ a .count = let h = inv .0 in let m = l .loop-test .left in omega arith in
     record {
-      verdict = sym (all-read file (a .count)) ∙ (ap (λ (j : ℕ). verdictFrom file (a .count) j) (sym at) ∙ inv .5);
-      nine = c .open-workers2 .ensures .size ∙ inv .4 .nine;
-      read = λ q. k .read;
-      right = λ q. firsts-right file (a .count) _ _ _ _ _ k (c .open-workers2 .ensures);
-      sizesRight = λ q. k .sizesRight;
+      verdict = sym (all-read (a .file .now) (a .count)) ∙ (ap (λ (j : ℕ). verdictFrom (a .file .now) (a .count) j) (sym all) ∙ inv .4);
+      size = c .open-workers2 .ensures .size ∙ inv .3 .size;
+      read = λ q. records-read (subst (λ (j : ℕ). Kept (a .file .now) j (a .n) (a .sizes .now) (l .before .loop .opened) (l .before .loop .firsts)) all (inv .3)) (c .open-workers2 .ensures);
     }
 
 pub read-by-table-spec : {M : Type 1} → statement M
@@ -192,11 +232,19 @@ read-by-table-spec =
     enum-told
     returns
     place-requires
-    mul-row
-    array-copy-out-row
-    later-ruling-requires
-    enum-known-ruling
+    no-step-requires
     returns-2
+    mul-t19
+    element-copy-out-t24
+    mul-t25
+    element-copy-out-t28
+    mul-t29
+    element-copy-out-t32
+    mul-t33
+    element-copy-out-t36
+    step-rule-requires
+    enum-known-rule
+    returns-3
     enum-told-2
     cast-worker
     open-workers-requires
@@ -205,4 +253,4 @@ read-by-table-spec =
     loop-less
     loop-again
     open-workers-requires-2
-    returns-3)
+    returns-4)

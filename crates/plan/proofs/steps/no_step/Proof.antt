@@ -1,6 +1,6 @@
 use borrow.Author.Tests.{eq-eqb, ne-eqb}
-use Rattle.plan.proofs.steps.no_step_ruling.Statement.{statement}
-use Rattle.plan.proofs.steps.no_step_ruling.Tie as tie
+use Rattle.plan.proofs.steps.no_step.Statement.{statement}
+use Rattle.plan.proofs.steps.no_step.Tie as tie
 
 returns : tie.Need-returns
 returns c = simp (eq-eqb _ _ (c .if1 .taken))
@@ -11,5 +11,5 @@ returns-2 c = simp (ne-eqb _ _ (c .before .if1 .left), eq-eqb _ _ (c .if2 .taken
 returns-3 : tie.Need-returns-3
 returns-3 c = simp (ne-eqb _ _ (c .before .if1 .left), ne-eqb _ _ (c .if2 .left))
 
-pub no-step-ruling-spec : {M : Type 1} → statement M
-no-step-ruling-spec = tie.close (tie.spec returns returns-2 returns-3)
+pub no-step-spec : {M : Type 1} → statement M
+no-step-spec = tie.close (tie.spec returns returns-2 returns-3)

@@ -1,0 +1,2 @@
+-- The one rule over the rows, and where the rows stand.
+pub mod Rows
