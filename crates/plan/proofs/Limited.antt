@@ -1,5 +1,5 @@
 -- What the row of an op tells: that the op has a step, and when its operands are out of range.
-use Prim.Native.Nat.{ℕ, _<_, _≤_}
+use Prim.Native.Nat.{ℕ, _<_}
 use mathlib.Core.Bool.{Bool, true, false, true≢false}
 use mathlib.Core.Path.{_≡_, refl, sym, ap, _∙_}
 use mathlib.Core.Option.{Option, none, some}
@@ -36,17 +36,17 @@ module _ (o : ℕ) (row : Row) (e : limitsFor o ≡ some row) where
       go (some y) q = refl
 
   -- the ops of the plan record and of the barrier records have no row
-  pub no-plan : eqb o opPlanRecord ≡ false
+  pub not-plan-record : eqb o opPlanRecord ≡ false
   unfolding known rowIn
-  no-plan = ne-eqb o opPlanRecord (λ z. true≢false (sym is-known ∙ ap known z))
+  not-plan-record = ne-eqb o opPlanRecord (λ z. true≢false (sym is-known ∙ ap known z))
 
-  pub no-barrier-record : eqb o opBarrierRecord ≡ false
+  pub not-barrier-record : eqb o opBarrierRecord ≡ false
   unfolding known rowIn
-  no-barrier-record = ne-eqb o opBarrierRecord (λ z. true≢false (sym is-known ∙ ap known z))
+  not-barrier-record = ne-eqb o opBarrierRecord (λ z. true≢false (sym is-known ∙ ap known z))
 
-  pub within : (register number : ℕ) → operandsOutside (rowOf o) register number ≡ outsideOf row register number
+  pub outside-row : (register number : ℕ) → operandsOutside (rowOf o) register number ≡ outsideOf row register number
   unfolding operandsOutside
-  within register number = go (rowOf o) e
+  outside-row register number = go (rowOf o) e
     where
       go : (x : Option format.Row) → limitsIn x ≡ some row → operandsOutside x register number ≡ outsideOf row register number
       go none q = let z : _≡_ {A = ℕ} 0 1 = cc in absurd (omega arith)

@@ -8,17 +8,17 @@ use native.Mathlib.Omega.{arith}
 use lib.Dec.{leb, ltb, eqb}
 use lib.ListN.{length}
 use borrow.Author.Tests.{ltb-false, leb-false, eqb-true}
-use Rattle.protocol.specs.Ops.{opPlanRecord, opBarrierRecord, opBarrier}
-use Rattle.protocol.specs.Format.{Record, rowIn, rowOf, known, isBarrier, isStep, workersIn, stepsIn, workersLimit, barrierCount, sizeLimit, stepsLimit}
-use Rattle.protocol.specs.Refusals.{Refusal, badPlan, badBarrier, Rule, holds, refuseIf, anyOf, outside, wrongPlan, wrongBarrier, barrierRecordRule, operandsOutside, stepRule, laterRule}
+use Rattle.protocol.specs.Ops.{opPlanRecord, opBarrierRecord}
+use Rattle.protocol.specs.Format.{Record, rowIn, known, isBarrier, isStep, workersIn, stepsIn, workersLimit, barrierCount, sizeLimit, stepsLimit}
+use Rattle.protocol.specs.Refusals.{Refusal, badPlan, badBarrier, Rule, holds, refuseIf, anyOf, outside, wrongPlan, wrongBarrier, wrongOperand, lacksSize, barrierRecordRule, stepRule, laterRule}
 use Rattle.protocol.specs.WellFormed.{PlanRecord, BarrierRecord}
 use Rattle.protocol.proofs.Bools.{or-left, or-right}
-use Rattle.protocol.proofs.Records.{reaches, picks, lowIn, openedIn, names}
+use Rattle.protocol.proofs.Records.{any-reaches, picks, lowIn, openedIn}
 
 -- a rule that holds: its test fails, and the next rule holds
-pub passes : (b : Bool) (f : Refusal) (next : Rule) → refuseIf b f next ≡ holds → (b ≡ false) × (next ≡ holds)
-passes true f next e = let z : _≡_ {A = ℕ} 0 1 = cc in absurd (omega arith)
-passes false f next e = (refl, e)
+pub rule-parts : (b : Bool) (f : Refusal) (next : Rule) → refuseIf b f next ≡ holds → (b ≡ false) × (next ≡ holds)
+rule-parts true f next e = let z : _≡_ {A = ℕ} 0 1 = cc in absurd (omega arith)
+rule-parts false f next e = (refl, e)
 
 not-so : (b : Bool) → not b ≡ false → b ≡ true
 not-so true e = refl
@@ -30,8 +30,8 @@ pub record StepTaken (before : List Record) (r : Record) : Type 0 where
   pub below : r .worker < workersIn before
   pub level : openedIn before ≤ suc (r .worker)
   pub few : length (stepsIn before (r .worker)) < stepsLimit
-  pub inside : operandsOutside (rowOf (r .op)) (r .register) (r .number) ≡ false
-  pub sized : eqb (r .op) opBarrier && not (anyOf (names (r .number)) before) ≡ false
+  pub inside : wrongOperand r ≡ false
+  pub sized : lacksSize before r ≡ false
 
 pub record BarrierTaken (before : List Record) (r : Record) : Type 0 where
   pub barrier : isBarrier r ≡ true
@@ -77,11 +77,11 @@ barrier-taken : (before : List Record) (r : Record) → isBarrier r ≡ true →
 unfolding barrierRecordRule
 barrier-taken before r b e =
     let higher = anyOf (λ q. isBarrier q && leb (r .register) (q .register)) before in
-    let t = none-of higher (anyOf isStep before) (wrongBarrier r) (passes (higher || anyOf isStep before || wrongBarrier r) badBarrier holds e .0) in
+    let t = none-of higher (anyOf isStep before) (wrongBarrier r) (rule-parts (higher || anyOf isStep before || wrongBarrier r) badBarrier holds e .0) in
     record {
       barrier = b;
       noStep = barrier-no-step r b;
-      ascends = ltb-false _ _ (sym (reaches isBarrier (λ q. q .register) (r .register) before) ∙ t .0);
+      ascends = ltb-false _ _ (sym (any-reaches isBarrier (λ q. q .register) (r .register) before) ∙ t .0);
       unopened = let h : openedIn before ≤ 0 = ltb-false _ _ (sym (picks isStep (λ q. q .worker) before) ∙ t .1) in omega arith;
       formed = barrier-record r b (t .2);
     }
@@ -89,16 +89,16 @@ barrier-taken before r b e =
 step-taken : (before : List Record) (r : Record) → isBarrier r ≡ false → stepRule before r ≡ holds → StepTaken before r
 unfolding stepRule
 step-taken before r b e =
-    let p₁ = passes _ _ _ e in
-    let p₂ = passes _ _ _ (p₁ .1) in
-    let p₃ = passes _ _ _ (p₂ .1) in
-    let p₄ = passes _ _ _ (p₃ .1) in
-    let p₅ = passes _ _ _ (p₄ .1) in
+    let p₁ = rule-parts _ _ _ e in
+    let p₂ = rule-parts _ _ _ (p₁ .1) in
+    let p₃ = rule-parts _ _ _ (p₂ .1) in
+    let p₄ = rule-parts _ _ _ (p₃ .1) in
+    let p₅ = rule-parts _ _ _ (p₄ .1) in
     record {
       step = not-so (isStep r) (p₁ .0);
       noBarrier = b;
       below = leb-false _ _ (or-left _ _ (p₂ .0));
-      level = ltb-false _ _ (sym (reaches isStep (λ q. q .worker) (suc (r .worker)) before) ∙ or-right (leb (workersIn before) (r .worker)) (p₂ .0));
+      level = ltb-false _ _ (sym (any-reaches isStep (λ q. q .worker) (suc (r .worker)) before) ∙ or-right (leb (workersIn before) (r .worker)) (p₂ .0));
       few = leb-false _ _ (p₃ .0);
       inside = p₄ .0;
       sized = p₅ .0;
@@ -107,7 +107,7 @@ step-taken before r b e =
 -- a taken record is a barrier record or a step
 pub later-taken : (before : List Record) (r : Record) → laterRule before r ≡ holds → BarrierTaken before r ⊎ StepTaken before r
 unfolding laterRule
-later-taken before r e = go (isBarrier r) refl (passes (eqb (r .op) opPlanRecord) badPlan (cond (isBarrier r) (barrierRecordRule before r) (stepRule before r)) e .1)
+later-taken before r e = go (isBarrier r) refl (rule-parts (eqb (r .op) opPlanRecord) badPlan (cond (isBarrier r) (barrierRecordRule before r) (stepRule before r)) e .1)
   where
     go : (b : Bool) → isBarrier r ≡ b → cond b (barrierRecordRule before r) (stepRule before r) ≡ holds → BarrierTaken before r ⊎ StepTaken before r
     go true p q = inl (barrier-taken before r p q)

@@ -7,16 +7,16 @@ use mathlib.Core.Bool.{false}
 use mathlib.Core.List.{List}
 use mathlib.Core.Option.{some}
 use lib.ListN.{getD}
-use Rattle.protocol.specs.Format.{isBarrier, table, workersLimit}
+use Rattle.protocol.specs.Format.{isBarrier, workersLimit}
 use Rattle.protocol.specs.Refusals as protocol
-use Rattle.format.specs.Table.{limits, placeIn}
+use Rattle.format.specs.Table.{limits}
 use Rattle.format.specs.declared.table.Row.{Row}
 use Rattle.format.proofs.Rows.{place-inside, no-row, row-at}
 use Rattle.plan.specs.Answer.{ruleAs}
 use Rattle.plan.specs.Reading.{fileRecord, verdictFrom}
 use Rattle.plan.specs.Stepping.{keptRule}
 use Rattle.plan.proofs.Readings.{Body, verdict-step, unmarked-rule, not-refused}
-use Rattle.plan.proofs.Stepped.{Kept, OneStep, kept-first, inside, same-rule, no-step-rule, worker-below, step-more, all-read, records-read}
+use Rattle.plan.proofs.Stepped.{Kept, OneStep, kept-first, begun-before, same-rule, no-step-rule, worker-below, step-more, read-through, records-read}
 use Rattle.plan.proofs.steps.read_by_table.Statement.{statement}
 use Rattle.plan.proofs.steps.read_by_table.Tie as tie
 
@@ -149,7 +149,7 @@ step-rule-requires c κs =
     row-at (body p .op) d (let h = has-row e in omega arith)
     ∙ (ap (λ (k : ℕ). some (getD limits k d)) (sym same) ∙ ap (λ (rows : List Row). some (getD rows k d)) (sym (start p .pre .0))) in
     let inv = at p .loop .inv in
-    (row, (inv .3 .few, (inv .1, inside (inv .3))))
+    (row, (inv .3 .few, (inv .1, begun-before (inv .3))))
 
 -- the place of the rule's record
 abbrev placed : tie.After-step-rule Inv-loop μ-loop → tie.After-place Inv-loop μ-loop
@@ -214,7 +214,7 @@ returns-4 c =
     let a = l .before .before .before .args in
     let all : l .before .loop .i ≡ a .count = let h = inv .0 in let m = l .loop-test .left in omega arith in
     record {
-      verdict = sym (all-read (a .file .now) (a .count)) ∙ (ap (λ (j : ℕ). verdictFrom (a .file .now) (a .count) j) (sym all) ∙ inv .4);
+      verdict = sym (read-through (a .file .now) (a .count)) ∙ (ap (λ (j : ℕ). verdictFrom (a .file .now) (a .count) j) (sym all) ∙ inv .4);
       size = c .open-workers2 .ensures .size ∙ inv .3 .size;
       read = λ q. records-read (subst (λ (j : ℕ). Kept (a .file .now) j (a .n) (a .sizes .now) (l .before .loop .opened) (l .before .loop .firsts)) all (inv .3)) (c .open-workers2 .ensures);
     }
