@@ -16,7 +16,7 @@ use Rattle.protocol.specs.Format.{Record, planMark, recordsFrom, workersIn, isB
 use Rattle.protocol.specs.Refusals as protocol
 use Rattle.protocol.specs.Refusals.{anyOf, ruled, refuseIf, holds, checkRecords, recordRule, planRule, laterRule, wrongPlan, wrongBarrier, barrierRecordRule, stepRule}
 use Rattle.protocol.specs.WellFormed.{PlanRecord}
-use Rattle.protocol.proofs.Bools.{split, or-left, or-right, or-false}
+use Rattle.protocol.proofs.Bools.{or-left, or-right, or-false, or-fails}
 use Rattle.protocol.proofs.Lists.{length-recordsFrom}
 use Rattle.protocol.proofs.Records.{one as one-of, any-reaches, anyOf-one, topIn, lowIn, topIn-kept, topIn-raised, names-new, sizeIn-other, sizeIn-new}
 use Rattle.protocol.proofs.Taken.{rule-parts, plan-record, barrier-record, barrier-no-step}
@@ -72,16 +72,14 @@ verdict-step file count i {rule} h e =
 -- ---- what the decoder told of a record
 
 pub told : (r : Record) {b : Body} → decodedOf r ≡ Read b → r ≡ recordOf b
-told r {b} e = split (eqb (r .mark) planMark)
-    (λ q. ap (λ (m : ℕ). record { mark = m; worker = r .worker; op = r .op; register = r .register; number = r .number }) (eqb-true _ _ q)
-    ∙ ap recordOf (same (sym (ap (λ (t : Bool). cond t (Read (bodyOf r)) Unmarked) q) ∙ e)))
-    (λ q. other (sym (ap (λ (t : Bool). cond t (Read (bodyOf r)) Unmarked) q) ∙ e))
+told r {b} e = go (eqb (r .mark) planMark) refl e
   where
-    same : Read (bodyOf r) ≡ Read b → bodyOf r ≡ b
-    same q = cc
-
-    other : {A : Type 0} → Unmarked ≡ Read b → A
-    other q = let z : _≡_ {A = ℕ} 0 1 = cc in absurd (omega arith)
+    go : (t : Bool) → eqb (r .mark) planMark ≡ t → cond t (Read (bodyOf r)) Unmarked ≡ Read b → r ≡ recordOf b
+    go true q h =
+        let same : bodyOf r ≡ b = cc in
+        ap (λ (m : ℕ). record { mark = m; worker = r .worker; op = r .op; register = r .register; number = r .number }) (eqb-true _ _ q)
+        ∙ ap recordOf same
+    go false q h = let z : _≡_ {A = ℕ} 0 1 = cc in absurd (omega arith)
 
 told-unmarked : (r : Record) → decodedOf r ≡ Unmarked → eqb (r .mark) planMark ≡ false
 told-unmarked r e = go (eqb (r .mark) planMark) e
@@ -193,8 +191,7 @@ module _ {file : List ℕ} {i low : ℕ} {sizes : List ℕ} {b : Body} (least : 
       marked-rule file i least decoded
       ∙ (ap (λ (o : ℕ). refuseIf (eqb o opPlanRecord) protocol.badPlan (cond (eqb o opBarrierRecord) (barrierRecordRule rs r) (stepRule rs r))) op
       ∙ ap (λ (t : Bool). refuseIf (t || wrongBarrier r) protocol.badBarrier holds)
-      (ap (λ (t : Bool). t || anyOf isStep rs) (any-reaches isBarrier (λ q. q .register) (b .register) rs ∙ ap (λ (k : ℕ). ltb (b .register) k) (at .lowest))
-      ∙ (ap (λ (t : Bool). ltb (b .register) low || t) (at .soFar .noStep) ∙ or-false (ltb (b .register) low))))
+      (or-fails _ (at .soFar .noStep) ∙ (any-reaches isBarrier (λ q. q .register) (b .register) rs ∙ ap (λ (k : ℕ). ltb (b .register) k) (at .lowest))))
     where
       rs : List Record
       rs = before file i

@@ -15,7 +15,7 @@ use Rattle.protocol.specs.Ops.{opBarrier}
 use Rattle.protocol.specs.Format.{Record, Step, sync, exit, isBarrier, isStep, isStepOf, workersIn, sizeIn, stepsIn, stepOf, firstIn, sizeLimit, stepsLimit}
 use Rattle.protocol.specs.Refusals.{anyOf, holds, wrongOperand, lacksSize, laterRule}
 use Rattle.protocol.specs.WellFormed.{blank}
-use Rattle.protocol.proofs.Bools.{split, or-false, and-right}
+use Rattle.protocol.proofs.Bools.{split, or-fails, and-right}
 use Rattle.protocol.proofs.Records.{one, one-step, topIn, anyOf-one, topIn-kept, topIn-raised, openedIn, names, names-new, sizeIn-other, sizeIn-new, stepsIn-one, first-unopened}
 use Rattle.protocol.proofs.Records.{first-inside, first-grows, first-one-opened, first-one-unopened}
 use Rattle.protocol.proofs.Taken.{StepTaken, BarrierTaken, later-taken}
@@ -169,19 +169,15 @@ module _ (rs : List Record) (r : Record) where
       ]
 
   -- the sizes of barriers
-  and-false : (a b c : Bool) → (b ≡ false → c ≡ false) → a && b ≡ false → a && c ≡ false
-  and-false true b c f e = f e
-  and-false false b c f e = refl
-
-  or-true-not : (a b : Bool) → not a ≡ false → not (a || b) ≡ false
-  or-true-not true b e = refl
-  or-true-not false b e = absurd (true≢false e)
-
   sized-more : (q : Record) → lacksSize rs q ≡ false → lacksSize (rs ++ one r) q ≡ false
   sized-more q e =
-      and-false (eqb (q .op) opBarrier) (not (anyOf (names (q .number)) rs)) (not (anyOf (names (q .number)) (rs ++ one r)))
-      (λ d. ap not (anyOf-one (names (q .number)) rs r) ∙ or-true-not (anyOf (names (q .number)) rs) (names (q .number) r) d)
-      e
+      ap (λ (n : Bool). eqb (q .op) opBarrier && not n) (anyOf-one (names (q .number)) rs r)
+      ∙ go (eqb (q .op) opBarrier) (anyOf (names (q .number)) rs) (names (q .number) r) e
+    where
+      go : (a n t : Bool) → a && not n ≡ false → a && not (n || t) ≡ false
+      go false n t e = refl
+      go true true t e = refl
+      go true false t e = absurd (true≢false e)
 
   fit-more : (isStep r ≡ true → StepFits (rs ++ one r) (length rs) r) → Fit rs → Fit (rs ++ one r)
   fit-more new old i h e = elim (decLt i (length rs)) [
@@ -215,8 +211,7 @@ module _ (rs : List Record) (r : Record) where
       record {
         found =
             anyOf-one (names b) rs r
-            ∙ (ap (λ (t : Bool). anyOf (names b) rs || t) n
-            ∙ (or-false (anyOf (names b) rs) ∙ (old .found ∙ ap (λ (k : ℕ). not (eqb k 0)) (sym same))));
+            ∙ (or-fails (anyOf (names b) rs) n ∙ (old .found ∙ ap (λ (k : ℕ). not (eqb k 0)) (sym same)));
         most = let h = old .most in omega arith;
       }
 

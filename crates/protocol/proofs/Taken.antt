@@ -1,13 +1,13 @@
 -- What it means that a record is taken: the rules of a later record, as facts.
 use Prim.Native.Nat.{ℕ, suc, _<_, _≤_}
-use mathlib.Core.Bool.{Bool, true, false, cond, not, _&&_, _||_, true≢false}
+use mathlib.Core.Bool.{Bool, true, false, cond, not, _&&_, _||_}
 use mathlib.Core.Path.{_≡_, refl, sym, ap, _∙_}
 use mathlib.Core.Logic.{_⊎_, inl, inr}
 use mathlib.Core.List.{List}
 use native.Mathlib.Omega.{arith}
 use lib.Dec.{leb, ltb, eqb}
 use lib.ListN.{length}
-use borrow.Author.Tests.{ltb-false, leb-false, eqb-true}
+use borrow.Author.Tests.{not-false, ltb-false, leb-false, eqb-true}
 use Rattle.protocol.specs.Ops.{opPlanRecord, opBarrierRecord}
 use Rattle.protocol.specs.Format.{Record, rowIn, known, isBarrier, isStep, workersIn, stepsIn, workersLimit, barrierCount, sizeLimit, stepsLimit}
 use Rattle.protocol.specs.Refusals.{Refusal, badPlan, badBarrier, Rule, holds, refuseIf, anyOf, outside, wrongPlan, wrongBarrier, wrongOperand, lacksSize, barrierRecordRule, stepRule, laterRule}
@@ -19,10 +19,6 @@ use Rattle.protocol.proofs.Records.{any-reaches, picks, lowIn, openedIn
 pub rule-parts : (b : Bool) (f : Refusal) (next : Rule) → refuseIf b f next ≡ holds → (b ≡ false) × (next ≡ holds)
 rule-parts true f next e = let z : _≡_ {A = ℕ} 0 1 = cc in absurd (omega arith)
 rule-parts false f next e = (refl, e)
-
-not-so : (b : Bool) → not b ≡ false → b ≡ true
-not-so true e = refl
-not-so false e = absurd (true≢false e)
 
 pub record StepTaken (before : List Record) (r : Record) : Type 0 where
   pub step : isStep r ≡ true
@@ -55,11 +51,11 @@ plan-record r e =
     let workers = outside 1 workersLimit (r .worker) in
     let t = none-of (op || workers) (not (eqb (r .register) 0)) (not (eqb (r .number) 0)) e in
     record {
-      op = eqb-true (r .op) opPlanRecord (not-so _ (or-left op workers (t .0)));
+      op = eqb-true (r .op) opPlanRecord (not-false _ (or-left op workers (t .0)));
       least = ltb-false _ _ (or-left (ltb (r .worker) 1) _ (or-right op (t .0)));
       most = ltb-false _ _ (or-right (ltb (r .worker) 1) (or-right op (t .0)));
-      register = eqb-true (r .register) 0 (not-so _ (t .1));
-      number = eqb-true (r .number) 0 (not-so _ (t .2));
+      register = eqb-true (r .register) 0 (not-false _ (t .1));
+      number = eqb-true (r .number) 0 (not-false _ (t .2));
     }
 
 pub barrier-record : (r : Record) → isBarrier r ≡ true → wrongBarrier r ≡ false → BarrierRecord r
@@ -67,7 +63,7 @@ barrier-record r b e =
     let t = none-of (not (eqb (r .worker) 0)) (leb barrierCount (r .register)) (outside 1 sizeLimit (r .number)) e in
     record {
       op = eqb-true (r .op) opBarrierRecord b;
-      worker = eqb-true (r .worker) 0 (not-so _ (t .0));
+      worker = eqb-true (r .worker) 0 (not-false _ (t .0));
       barrier = leb-false _ _ (t .1);
       least = ltb-false _ _ (or-left (ltb (r .number) 1) _ (t .2));
       most = ltb-false _ _ (or-right (ltb (r .number) 1) (t .2));
@@ -95,7 +91,7 @@ step-taken before r b e =
     let p₄ = rule-parts _ _ _ (p₃ .1) in
     let p₅ = rule-parts _ _ _ (p₄ .1) in
     record {
-      step = not-so (isStep r) (p₁ .0);
+      step = not-false (isStep r) (p₁ .0);
       noBarrier = b;
       below = leb-false _ _ (or-left _ _ (p₂ .0));
       level = ltb-false _ _ (sym (any-reaches isStep (λ q. q .worker) (suc (r .worker)) before) ∙ or-right (leb (workersIn before) (r .worker)) (p₂ .0));

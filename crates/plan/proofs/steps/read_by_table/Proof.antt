@@ -90,14 +90,15 @@ module _ (c : tie.After-place Inv-loop μ-loop) where
         decoded = sym (read .before .before .decode .ensures) ∙ read .r .given .1;
       }
 
-  goes-on : {x : protocol.Rule}
-      → keptRule (start .args .n) (at .loop .opened) (start .args .sizes .now) (at .loop .firsts) (at .loop .i) body ≡ x
+  abbrev rule : protocol.Rule
+  rule = keptRule (start .args .n) (at .loop .opened) (start .args .sizes .now) (at .loop .firsts) (at .loop .i) body
+
+  goes-on : {x : protocol.Rule} → rule ≡ x
       → protocol.ruled x (at .loop .i) (verdictFrom (start .args .file .now) (start .args .count) (at .loop .i + 1))
       ≡ verdictFrom (start .args .file .now) (start .args .count) (start .args .start)
   goes-on e = sym (verdict-step _ _ _ (in-loop .loop-test .taken) (same-rule one-step ∙ e)) ∙ at .loop .inv .4
 
-  fits : keptRule (start .args .n) (at .loop .opened) (start .args .sizes .now) (at .loop .firsts) (at .loop .i) body ≡ protocol.holds
-      → body .worker < workersLimit
+  fits : rule ≡ protocol.holds → body .worker < workersLimit
   fits e = omega (arith, worker-below one-step e, at .loop .inv .3 .few)
 
 returns-2 : tie.Need-returns-2 Inv-loop μ-loop
@@ -175,7 +176,7 @@ module _ (c : tie.After-enum-told2 Inv-loop μ-loop) where
   abbrev step : tie.After-place Inv-loop μ-loop
   step = placed (c .before .before)
 
-  passed : keptRule (start step .args .n) (at step .loop .opened) (start step .args .sizes .now) (at step .loop .firsts) (at step .loop .i) (body step) ≡ protocol.holds
+  passed : rule step ≡ protocol.holds
   passed = sym (c .before .before .step-rule .ensures) ∙ ap ruleAs (c .enum-told2 .given .1)
 
 cast-worker : tie.Need-cast-worker Inv-loop μ-loop
