@@ -3,13 +3,12 @@ use Prim.Native.Nat.{ℕ, suc, _+_, _-_, _<_, _≤_}
 use mathlib.Core.Bool.{Bool, true, false, cond}
 use mathlib.Core.Path.{_≡_, refl, sym, ap, _∙_, subst}
 use mathlib.Core.List.{List, [], _∷_, map}
-use mathlib.Core.Option.{Option, none, some}
+use mathlib.Core.Option.{none, some}
 use native.Mathlib.Omega.{arith}
 use lib.Dec.{eqb}
 use lib.ListN.{length, getD, List·getD-map}
 use Rattle.protocol.specs.Format as format
 use Rattle.protocol.specs.Format.{table, rowIn, countFrom}
-use Rattle.protocol.proofs.Bools.{split}
 use Rattle.protocol.proofs.Lists.{getD-any, getD-counted}
 use Rattle.format.specs.Table.{limitsOf, limits, limitsIn, limitsFor, placeIn}
 use Rattle.format.specs.declared.table.Row.{Row}
@@ -18,9 +17,12 @@ use Rattle.format.specs.declared.table.Row.{Row}
 at-place : (xs : List format.Row) (o : ℕ) → limitsIn (rowIn xs o) ≡ getD (map (λ x. some (limitsOf x)) xs) (placeIn xs o) none
 unfolding rowIn placeIn
 at-place [] o = refl
-at-place (x ∷ xs) o = split (eqb (x .op) o)
-    (λ e. ap (λ (b : Bool). limitsIn (cond b (some x) (rowIn xs o))) e ∙ sym (ap (λ (b : Bool). getD (map (λ x. some (limitsOf x)) (x ∷ xs)) (cond b 0 (suc (placeIn xs o))) none) e))
-    (λ e. ap (λ (b : Bool). limitsIn (cond b (some x) (rowIn xs o))) e ∙ (at-place xs o ∙ sym (ap (λ (b : Bool). getD (map (λ x. some (limitsOf x)) (x ∷ xs)) (cond b 0 (suc (placeIn xs o))) none) e)))
+at-place (x ∷ xs) o = go (at-place xs o) (eqb (x .op) o)
+  where
+    go : limitsIn (rowIn xs o) ≡ getD (map (λ x. some (limitsOf x)) xs) (placeIn xs o) none → (b : Bool)
+        → limitsIn (cond b (some x) (rowIn xs o)) ≡ getD (map (λ x. some (limitsOf x)) (x ∷ xs)) (cond b 0 (suc (placeIn xs o))) none
+    go rest true = refl
+    go rest false = rest
 
 -- two functions that are the same on the n numbers from a on, by one test over the list of them
 pub on-run : (f g : ℕ → ℕ) (a n : ℕ) → map f (countFrom n a) ≡ map g (countFrom n a) → (o : ℕ) → a ≤ o → o < a + n → f o ≡ g o

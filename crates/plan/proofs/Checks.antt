@@ -1,6 +1,6 @@
 -- The check of a file, up to the records behind the plan record, and what it leaves.
-use Prim.Native.Nat.{ℕ, _+_, _-_, _/_, _≤_, _<_}
-use mathlib.Core.Bool.{Bool, true, false}
+use Prim.Native.Nat.{ℕ, _+_, _-_, _/_, _≤_}
+use mathlib.Core.Bool.{Bool, false}
 use mathlib.Core.Path.{_≡_, sym, ap, _∙_}
 use mathlib.Core.List.{List, []}
 use native.Mathlib.Omega.{arith}
@@ -8,9 +8,8 @@ use lib.ListN.{length}
 use Rattle.protocol.specs.Format.{recordLength, recordsFrom, recordCount, records, workersLimit, barrierCount}
 use Rattle.protocol.specs.Refusals as protocol
 use Rattle.protocol.specs.Refusals.{refuseIf, holds, ruled, wrongLength, wrongPlan, lengthRule, planRule, recordRule, checkRecords}
-use Rattle.protocol.proofs.Accepted.{Length}
 use Rattle.plan.specs.Answer.{recordOf, decodedOf, verdictOf}
-use Rattle.plan.specs.Reading.{fileRecord, before, verdictFrom, BarriersRead}
+use Rattle.plan.specs.Reading.{fileRecord, verdictFrom, BarriersRead}
 use Rattle.plan.specs.Stepping.{StepsSoFar, RecordsRead}
 use Rattle.plan.specs.Skipping.{SkipChecking}
 use Rattle.plan.specs.Checking.{LaidOut, CheckedAs}

@@ -10,8 +10,8 @@ use Rattle.plan.specs.declared.decode.Decoded.the-variants.{Read, Unmark
 by-mark : (r : Record) (b : Bool) → eqb (r .mark) planMark ≡ b → cond b (Read (bodyOf r)) Unmarked ≡ decodedOf r
 by-mark r b e = sym (ap (λ (t : Bool). cond t (Read (bodyOf r)) Unmarked) e)
 
-pub marked : (r : Record) → r .mark ≡ planMark → Read (bodyOf r) ≡ decodedOf r
-marked r e = by-mark r true (eq-eqb _ _ e)
+pub marked-decoded : (r : Record) → r .mark ≡ planMark → Read (bodyOf r) ≡ decodedOf r
+marked-decoded r e = by-mark r true (eq-eqb _ _ e)
 
-pub unmarked : (r : Record) → (r .mark ≡ planMark → ⊥) → Unmarked ≡ decodedOf r
-unmarked r e = by-mark r false (ne-eqb _ _ e)
+pub unmarked-decoded : (r : Record) → (r .mark ≡ planMark → ⊥) → Unmarked ≡ decodedOf r
+unmarked-decoded r e = by-mark r false (ne-eqb _ _ e)

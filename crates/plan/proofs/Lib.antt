@@ -1,6 +1,12 @@
+-- What the decoder finds, by the mark.
 pub mod Decoding
+-- One record of the reading, and the barrier records.
 pub mod Readings
+-- What the row of an op tells.
 pub mod Limited
+-- The step records.
 pub mod Stepped
+-- The skips.
 pub mod Skipped
+-- The check of a file, from its length to its layout.
 pub mod Checks

@@ -1,6 +1,6 @@
 -- What the row of an op tells: that the op has a step, and when its operands are out of range.
-use Prim.Native.Nat.{ℕ, _<_, _≤_}
-use mathlib.Core.Bool.{Bool, true, false, true≢false}
+use Prim.Native.Nat.{ℕ, _<_}
+use mathlib.Core.Bool.{true, false, true≢false}
 use mathlib.Core.Path.{_≡_, refl, sym, ap, _∙_}
 use mathlib.Core.Option.{Option, none, some}
 use native.Mathlib.Omega.{arith}
@@ -11,46 +11,46 @@ use Rattle.protocol.specs.Format as format
 use Rattle.protocol.specs.Format.{rowOf, rowIn, known}
 use Rattle.protocol.specs.Refusals.{operandsOutside}
 use Rattle.protocol.proofs.Bools.{or-right}
+use Rattle.protocol.proofs.Covered.{row-known}
 use Rattle.format.specs.Table.{limitsOf, limitsIn, limitsFor}
 use Rattle.format.specs.declared.table.Row.{Row}
 use Rattle.plan.specs.Stepping.{outsideOf}
-
-abbrev hasRow : Option format.Row → Bool
-hasRow x = elim x [ none ↦ false | some y ↦ true ]
 
 pub unknown : (o : ℕ) → limitsFor o ≡ none → known o ≡ false
 unfolding known
 unknown o e = go (rowOf o) e
   where
-    go : (x : Option format.Row) → limitsIn x ≡ none → hasRow x ≡ false
+    go : (x : Option format.Row) → limitsIn x ≡ none → elim x [ none ↦ false | some y ↦ true ] ≡ false
     go none q = refl
     go (some y) q = let z : _≡_ {A = ℕ} 0 1 = cc in absurd (omega arith)
 
 module _ (o : ℕ) (row : Row) (e : limitsFor o ≡ some row) where
-  pub is-known : known o ≡ true
-  unfolding known
-  is-known = go (rowOf o) e
+  table-row : (y : format.Row) × (rowOf o ≡ some y) × (limitsOf y ≡ row)
+  table-row = go (rowOf o) refl e
     where
-      go : (x : Option format.Row) → limitsIn x ≡ some row → hasRow x ≡ true
-      go none q = let z : _≡_ {A = ℕ} 0 1 = cc in absurd (omega arith)
-      go (some y) q = refl
+      go : (x : Option format.Row) → rowOf o ≡ x → limitsIn x ≡ some row → (y : format.Row) × (rowOf o ≡ some y) × (limitsOf y ≡ row)
+      go none p q = let z : _≡_ {A = ℕ} 0 1 = cc in absurd (omega arith)
+      go (some y) p q = (y, p, cc)
+
+  pub is-known : known o ≡ true
+  is-known = row-known o (table-row .0) (table-row .1)
 
   -- the ops of the plan record and of the barrier records have no row
-  pub no-plan : eqb o opPlanRecord ≡ false
-  unfolding known rowIn
-  no-plan = ne-eqb o opPlanRecord (λ z. true≢false (sym is-known ∙ ap known z))
+  other-op : (p : ℕ) → known p ≡ false → eqb o p ≡ false
+  other-op p f = ne-eqb o p (λ z. true≢false (sym is-known ∙ (ap known z ∙ f)))
 
-  pub no-barrier-record : eqb o opBarrierRecord ≡ false
+  pub not-plan-record : eqb o opPlanRecord ≡ false
   unfolding known rowIn
-  no-barrier-record = ne-eqb o opBarrierRecord (λ z. true≢false (sym is-known ∙ ap known z))
+  not-plan-record = other-op opPlanRecord refl
 
-  pub within : (register number : ℕ) → operandsOutside (rowOf o) register number ≡ outsideOf row register number
+  pub not-barrier-record : eqb o opBarrierRecord ≡ false
+  unfolding known rowIn
+  not-barrier-record = other-op opBarrierRecord refl
+
+  pub outside-row : (register number : ℕ) → operandsOutside (rowOf o) register number ≡ outsideOf row register number
   unfolding operandsOutside
-  within register number = go (rowOf o) e
-    where
-      go : (x : Option format.Row) → limitsIn x ≡ some row → operandsOutside x register number ≡ outsideOf row register number
-      go none q = let z : _≡_ {A = ℕ} 0 1 = cc in absurd (omega arith)
-      go (some y) q = let same : limitsOf y ≡ row = cc in ap (λ (x : Row). outsideOf x register number) same
+  outside-row register number =
+      ap (λ (x : Option format.Row). operandsOutside x register number) (table-row .1) ∙ ap (λ (x : Row). outsideOf x register number) (table-row .2)
 
 -- a barrier step names one of the barriers
 pub barrier-number : (o register number : ℕ) → o ≡ opBarrier → operandsOutside (rowOf o) register number ≡ false → number < format.barrierCount

@@ -1,25 +1,25 @@
 -- The check's laws, by record index: one record of the reading, and the barrier records.
-use Prim.Native.Nat.{ℕ, zero, suc, _+_, _-_, _*_, _%_, _<_, _≤_}
+use Prim.Native.Nat.{ℕ, zero, suc, _+_, _-_, _%_, _<_, _≤_}
 use mathlib.Core.Bool.{Bool, true, false, cond, not, _&&_, _||_}
-use mathlib.Core.Path.{_≡_, refl, sym, ap, _∙_, subst, subst⁻¹}
+use mathlib.Core.Path.{_≡_, refl, sym, ap, _∙_, subst⁻¹}
 use mathlib.Core.List.{List, [], _∷_, _++_}
 use mathlib.Core.Option.{some}
 use native.Mathlib.Omega.{arith}
 use native.Mathlib.Numerals.{add-one}
 use native.Mathlib.Decide.{ℕ-discrete}
-use lib.Dec.{leb, ltb, eqb}
+use lib.Dec.{ltb, eqb}
 use lib.ListN.{length, getD, set, replicate, length-set, getD-replicate}
 use lib.Seq.{getD-set-same, getD-set-other}
 use borrow.Author.Tests.{ltb-false, eqb-true, eq-eqb, ne-eqb}
 use Rattle.protocol.specs.Ops.{opPlanRecord, opBarrierRecord}
-use Rattle.protocol.specs.Format.{Record, planMark, recordLength, recordFrom, recordsFrom, workersIn, isBarrier, isStep, known, rowIn, sizeIn, barrierCount}
+use Rattle.protocol.specs.Format.{Record, planMark, recordsFrom, workersIn, isBarrier, isStep, known, rowIn, sizeIn, barrierCount}
 use Rattle.protocol.specs.Refusals as protocol
 use Rattle.protocol.specs.Refusals.{anyOf, ruled, refuseIf, holds, checkRecords, recordRule, planRule, laterRule, wrongPlan, wrongBarrier, barrierRecordRule, stepRule}
 use Rattle.protocol.specs.WellFormed.{PlanRecord}
-use Rattle.protocol.proofs.Bools.{split, or-left, or-right, or-false}
+use Rattle.protocol.proofs.Bools.{or-left, or-right, or-false, or-fails}
 use Rattle.protocol.proofs.Lists.{length-recordsFrom}
-use Rattle.protocol.proofs.Records.{one as one-of, reaches, anyOf-one, topIn, lowIn, topIn-kept, topIn-raised, names-new, sizeIn-other, sizeIn-new}
-use Rattle.protocol.proofs.Taken.{passes, plan-record, barrier-record, barrier-no-step}
+use Rattle.protocol.proofs.Records.{one as one-of, any-reaches, anyOf-one, topIn, lowIn, topIn-kept, topIn-raised, names-new, sizeIn-other, sizeIn-new}
+use Rattle.protocol.proofs.Taken.{rule-parts, plan-record, barrier-record, barrier-no-step}
 use Rattle.protocol.proofs.Prefix.{Read as PrefixRead, read-first, read-more}
 use Rattle.plan.specs.Answer.{bodyOf, recordOf, decodedOf}
 use Rattle.plan.specs.declared.decode.Record as decode
@@ -72,16 +72,14 @@ verdict-step file count i {rule} h e =
 -- ---- what the decoder told of a record
 
 pub told : (r : Record) {b : Body} → decodedOf r ≡ Read b → r ≡ recordOf b
-told r {b} e = split (eqb (r .mark) planMark)
-    (λ q. ap (λ (m : ℕ). record { mark = m; worker = r .worker; op = r .op; register = r .register; number = r .number }) (eqb-true _ _ q)
-    ∙ ap recordOf (same (sym (ap (λ (t : Bool). cond t (Read (bodyOf r)) Unmarked) q) ∙ e)))
-    (λ q. other (sym (ap (λ (t : Bool). cond t (Read (bodyOf r)) Unmarked) q) ∙ e))
+told r {b} e = go (eqb (r .mark) planMark) refl e
   where
-    same : Read (bodyOf r) ≡ Read b → bodyOf r ≡ b
-    same q = cc
-
-    other : {A : Type 0} → Unmarked ≡ Read b → A
-    other q = let z : _≡_ {A = ℕ} 0 1 = cc in absurd (omega arith)
+    go : (t : Bool) → eqb (r .mark) planMark ≡ t → cond t (Read (bodyOf r)) Unmarked ≡ Read b → r ≡ recordOf b
+    go true q h =
+        let same : bodyOf r ≡ b = cc in
+        ap (λ (m : ℕ). record { mark = m; worker = r .worker; op = r .op; register = r .register; number = r .number }) (eqb-true _ _ q)
+        ∙ ap recordOf same
+    go false q h = let z : _≡_ {A = ℕ} 0 1 = cc in absurd (omega arith)
 
 told-unmarked : (r : Record) → decodedOf r ≡ Unmarked → eqb (r .mark) planMark ≡ false
 told-unmarked r e = go (eqb (r .mark) planMark) e
@@ -90,8 +88,8 @@ told-unmarked r e = go (eqb (r .mark) planMark) e
     go true q = let z : _≡_ {A = ℕ} 0 1 = cc in absurd (omega arith)
     go false q = refl
 
-pub no-barrier : (r : Record) {b : Body} → decodedOf r ≡ Read b → (b .op ≡ opBarrierRecord → ⊥) → isBarrier r ≡ false
-no-barrier r e n = ap isBarrier (told r e) ∙ ne-eqb _ _ n
+pub no-barrier-record : (r : Record) {b : Body} → decodedOf r ≡ Read b → (b .op ≡ opBarrierRecord → ⊥) → isBarrier r ≡ false
+no-barrier-record r e n = ap isBarrier (told r e) ∙ ne-eqb _ _ n
 
 pub not-refused : {A : Type 0} (f : protocol.Refusal) (i : ℕ) → protocol.refused f i ≡ protocol.accepted → A
 not-refused f i e = let z : _≡_ {A = ℕ} 0 1 = cc in absurd (omega arith)
@@ -126,30 +124,30 @@ pub plan-first : (file : List ℕ) (i : ℕ) → 1 ≤ i → RulesHold file i �
 unfolding recordRule planRule recordsFrom
 plan-first file i h rules =
     let r = fileRecord file 0 in
-    plan-record r (passes (wrongPlan r) protocol.badPlan holds (passes (not (eqb (r .mark) planMark)) protocol.badMark (planRule r) (rules 0 h) .1) .0)
+    plan-record r (rule-parts (wrongPlan r) protocol.badPlan holds (rule-parts (not (eqb (r .mark) planMark)) protocol.badMark (planRule r) (rules 0 h) .1) .0)
 
 pub later-holds : (file : List ℕ) (i k : ℕ) → 1 ≤ k → k < i → RulesHold file i → laterRule (before file k) (fileRecord file k) ≡ holds
 unfolding recordRule recordsFrom
 later-holds file i zero l h rules = absurd (omega arith)
 later-holds file i (suc k) l h rules =
     let r = fileRecord file (suc k) in
-    passes (not (eqb (r .mark) planMark)) protocol.badMark (laterRule (before file (suc k)) r) (rules (suc k) h) .1
+    rule-parts (not (eqb (r .mark) planMark)) protocol.badMark (laterRule (before file (suc k)) r) (rules (suc k) h) .1
 
 -- the plan record alone
 module _ (file : List ℕ) (p : PlanRecord (fileRecord file 0)) where
-  first-barrier : isBarrier (fileRecord file 0) ≡ false
-  first-barrier = ap (λ (o : ℕ). eqb o opBarrierRecord) (p .op)
+  first-no-barrier : isBarrier (fileRecord file 0) ≡ false
+  first-no-barrier = ap (λ (o : ℕ). eqb o opBarrierRecord) (p .op)
 
-  first-step : isStep (fileRecord file 0) ≡ false
+  first-no-step : isStep (fileRecord file 0) ≡ false
   unfolding known rowIn
-  first-step = ap known (p .op)
+  first-no-step = ap known (p .op)
 
 pub read : (file : List ℕ) (i : ℕ) → 1 ≤ i → RulesHold file i → PrefixRead (before file i)
 unfolding recordsFrom
 read file zero h rules = absurd (omega arith)
 read file (suc zero) h rules =
     let p = plan-first file 1 h rules in
-    read-first (fileRecord file 0) (first-barrier file p) (first-step file p)
+    read-first (fileRecord file 0) (first-no-barrier file p) (first-no-step file p)
 read file (suc (suc i)) h rules =
     subst⁻¹ PrefixRead (ap (λ (j : ℕ). before file j) (sym (add-one (suc i))) ∙ before-more file (suc i))
     (read-more (fileRecord file 0) (recordsFrom file i 1) (fileRecord file (suc i))
@@ -173,13 +171,13 @@ barriers-first file rules =
       soFar =
           record {
             rules = rules;
-            noStep = or-false (isStep r) ∙ first-step file p;
+            noStep = or-false (isStep r) ∙ first-no-step file p;
             size = refl;
             right = λ b h.
                 getD-replicate barrierCount b 0 0 h
-                ∙ sym (ap (λ (t : Bool). cond (t && eqb (r .register) b) (r .number) 0) (first-barrier file p));
+                ∙ sym (ap (λ (t : Bool). cond (t && eqb (r .register) b) (r .number) 0) (first-no-barrier file p));
           };
-      lowest = topIn-kept isBarrier (λ q. q .register) [] r (first-barrier file p);
+      lowest = topIn-kept isBarrier (λ q. q .register) [] r (first-no-barrier file p);
       bounded = omega arith;
     }
 
@@ -193,8 +191,7 @@ module _ {file : List ℕ} {i low : ℕ} {sizes : List ℕ} {b : Body} (least : 
       marked-rule file i least decoded
       ∙ (ap (λ (o : ℕ). refuseIf (eqb o opPlanRecord) protocol.badPlan (cond (eqb o opBarrierRecord) (barrierRecordRule rs r) (stepRule rs r))) op
       ∙ ap (λ (t : Bool). refuseIf (t || wrongBarrier r) protocol.badBarrier holds)
-      (ap (λ (t : Bool). t || anyOf isStep rs) (reaches isBarrier (λ q. q .register) (b .register) rs ∙ ap (λ (k : ℕ). ltb (b .register) k) (at .lowest))
-      ∙ (ap (λ (t : Bool). ltb (b .register) low || t) (at .soFar .noStep) ∙ or-false (ltb (b .register) low))))
+      (or-fails _ (at .soFar .noStep) ∙ (any-reaches isBarrier (λ q. q .register) (b .register) rs ∙ ap (λ (k : ℕ). ltb (b .register) k) (at .lowest))))
     where
       rs : List Record
       rs = before file i

@@ -10,7 +10,7 @@ use lib.Dec.{leb, ltb, eqb}
 use lib.ListN.{length, getD, drop}
 use borrow.Author.Tests.{le-leb, eqb-true}
 use Rattle.protocol.specs.Ops.{opSkipZero, opSkipNonzero}
-use Rattle.protocol.specs.Format.{Record, recordsFrom, workersIn, known, rowIn, isStep, isSkip, stepsIn, firstIn, workersLimit}
+use Rattle.protocol.specs.Format.{Record, recordsFrom, known, rowIn, isStep, isSkip, stepsIn, firstIn, workersLimit}
 use Rattle.protocol.specs.Refusals as protocol
 use Rattle.protocol.specs.Refusals.{ruled, refuseIf, holds, checkSkips, skipRule}
 use Rattle.protocol.specs.WellFormed.{blank}
@@ -62,9 +62,9 @@ module _ (file : List ℕ) (count : ℕ) (firsts : List ℕ) (checking : SkipChe
   at : getD rs i blank ≡ r
   at = getD-records file count 0 i h ∙ ap (λ (m : ℕ). fileRecord file m) (omega arith)
 
-  skip-step : isSkip (r .op) ≡ true → isStep r ≡ true
+  skip-is-step : isSkip (r .op) ≡ true → isStep r ≡ true
   unfolding known rowIn
-  skip-step e =
+  skip-is-step e =
       split (eqb (r .op) opSkipZero) (λ q. ap known (eqb-true (r .op) opSkipZero q))
       (λ q. ap known (eqb-true (r .op) opSkipNonzero (sym (ap (λ (b : Bool). b || eqb (r .op) opSkipNonzero) q) ∙ e)))
 
@@ -72,7 +72,7 @@ module _ (file : List ℕ) (count : ℕ) (firsts : List ℕ) (checking : SkipChe
   first-begun e =
       first-least rs (r .worker) i blank (omega (arith, length-before file count, h))
       (ap (λ (q : Record). from (r .worker) q) at
-      ∙ (ap (λ (t : Bool). t && leb (r .worker) (r .worker)) (skip-step e) ∙ le-leb (r .worker) (r .worker) (omega arith)))
+      ∙ (ap (λ (t : Bool). t && leb (r .worker) (r .worker)) (skip-is-step e) ∙ le-leb (r .worker) (r .worker) (omega arith)))
 
   -- a skip's worker, and its steps behind the skip
   pub worker-below : isSkip (r .op) ≡ true → r .worker < workersLimit
@@ -94,7 +94,7 @@ module _ (file : List ℕ) (count : ℕ) (firsts : List ℕ) (checking : SkipChe
       let begun = first-begun e in
       let inside : i < length rs = omega (arith, length-before file count, h) in
       let ends : i < firstIn rs (suc w)
-      = subst (λ (q : Record). i < firstIn rs (suc (q .worker))) at (reading .fit i inside (ap isStep at ∙ skip-step e) .ends) in
+      = subst (λ (q : Record). i < firstIn rs (suc (q .worker))) at (reading .fit i inside (ap isStep at ∙ skip-is-step e) .ends) in
       let together = reading .together w in
       let stands = reading .placed w (i - firstIn rs w) (omega arith) .behind in
       let same = ap (λ (m : ℕ). length (stepsIn (drop (suc m) rs) w)) here in

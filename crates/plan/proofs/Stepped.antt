@@ -12,12 +12,12 @@ use lib.Dec.{leb, ltb, eqb}
 use lib.ListN.{length, getD}
 use borrow.Author.Tests.{lt-ltb, le-ltb, ltb-false, leb-false, eqb-true}
 use Rattle.protocol.specs.Ops.{opPlanRecord, opBarrierRecord, opBarrier}
-use Rattle.protocol.specs.Format.{Record, recordsFrom, rowOf, known, isBarrier, isStep, workersIn, sizeIn, stepsIn, firstIn, workersLimit, barrierCount, stepsLimit}
+use Rattle.protocol.specs.Format.{Record, recordsFrom, known, isBarrier, isStep, workersIn, sizeIn, stepsIn, firstIn, workersLimit, barrierCount, stepsLimit}
 use Rattle.protocol.specs.Refusals as protocol
-use Rattle.protocol.specs.Refusals.{anyOf, refuseIf, holds, ruled, operandsOutside, wrongBarrier, stepRule, barrierRecordRule, laterRule, recordRule}
+use Rattle.protocol.specs.Refusals.{anyOf, refuseIf, holds, wrongOperand, lacksSize, wrongBarrier, stepRule, barrierRecordRule, laterRule, recordRule}
 use Rattle.protocol.proofs.Bools.{split, or-left, or-right, or-holds}
-use Rattle.protocol.proofs.Records.{one, openedIn, names, picks, reaches, topIn-raised, sizeIn-other, first-unopened, first-one-opened, first-inside}
-use Rattle.protocol.proofs.Taken.{StepTaken, later-taken, passes}
+use Rattle.protocol.proofs.Records.{one, openedIn, names, picks, any-reaches, topIn-raised, sizeIn-other, first-unopened, first-one-opened, first-inside}
+use Rattle.protocol.proofs.Taken.{StepTaken, later-taken, rule-parts}
 use Rattle.protocol.proofs.Prefix.{first-step}
 use Rattle.format.specs.Table.{limitsFor}
 use Rattle.plan.specs.Answer.{recordOf, decodedOf}
@@ -25,7 +25,7 @@ use Rattle.plan.specs.Reading.{fileRecord, before, verdictFrom, RulesHol
 use Rattle.plan.specs.Stepping.{refusesWorker, readSteps, noStep, keptStepRule, keptRule, WorkersOpened, StepsSoFar, RecordsRead}
 use Rattle.plan.specs.declared.decode.Decoded.the-variants as decoded
 use Rattle.plan.proofs.Limited.{unknown, barrier-number}
-use Rattle.plan.proofs.Readings.{Body, before-more, length-before, told, marked-rule, verdict-step, rules-more, read, workers-same}
+use Rattle.plan.proofs.Readings.{Body, before-more, length-before, told, marked-rule, rules-more, read, workers-same}
 
 -- what the reading of steps has kept of the records before record i
 pub record Kept (file : List ℕ) (i n : ℕ) (sizes : List ℕ) (opened : ℕ) (firsts : List ℕ) : Type 0 where
@@ -51,8 +51,8 @@ module _ {file : List ℕ} {i n : ℕ} {sizes : List ℕ} {opened : ℕ} {firsts
   abbrev rs : List Record
   rs = before file i
 
-  pub inside : (w : ℕ) → w < opened → getD firsts w 0 ≤ i
-  inside w h = omega (arith, k .right w h, first-inside rs w, length-before file i)
+  pub begun-before : (w : ℕ) → w < opened → getD firsts w 0 ≤ i
+  begun-before w h = omega (arith, k .right w h, first-inside rs w, length-before file i)
 
   -- how many steps of a worker that does not fall have been read
   read-steps : (w : ℕ) → opened ≤ suc w → length (stepsIn rs w) ≡ readSteps firsts opened w i
@@ -66,8 +66,8 @@ module _ {file : List ℕ} {i n : ℕ} {sizes : List ℕ} {opened : ℕ} {firsts
         | no b ↦ let first = first-unopened rs w (omega arith) in rw (le-ltb w opened (omega arith)) (omega arith)
       ]
 
-  unsized : (b : Body) → operandsOutside (rowOf (b .op)) (b .register) (b .number) ≡ false
-      → eqb (b .op) opBarrier && not (anyOf (names (b .number)) rs) ≡ eqb (b .op) opBarrier && eqb (getD sizes (b .number) 0) 0
+  unsized : (b : Body) → wrongOperand (recordOf b) ≡ false
+      → lacksSize rs (recordOf b) ≡ eqb (b .op) opBarrier && eqb (getD sizes (b .number) 0) 0
   unsized b e = split (eqb (b .op) opBarrier)
       (λ q.
       ap (λ (t : Bool). eqb (b .op) opBarrier && t)
@@ -84,7 +84,7 @@ module _ {file : List ℕ} {i n : ℕ} {sizes : List ℕ} {opened : ℕ} {firsts
   falls w =
       ap (λ (m : ℕ). leb m w || anyOf (λ q. isStep q && ltb w (q .worker)) rs) (k .workers)
       ∙ ap (λ (b : Bool). leb n w || b)
-      (reaches isStep (λ q. q .worker) (suc w) rs ∙ (ap (λ (m : ℕ). ltb (suc w) m) (k .opens) ∙ ap (λ (m : ℕ). ltb m opened) (sym (add-one w))))
+      (any-reaches isStep (λ q. q .worker) (suc w) rs ∙ (ap (λ (m : ℕ). ltb (suc w) m) (k .opens) ∙ ap (λ (m : ℕ). ltb m opened) (sym (add-one w))))
 
   -- the code's rule of a step is the protocol's
   step-ruled : (b : Body) → stepRule rs (recordOf b) ≡ keptStepRule n opened sizes firsts i b
@@ -94,7 +94,7 @@ module _ {file : List ℕ} {i n : ℕ} {sizes : List ℕ} {opened : ℕ} {firsts
       same-if _ (refusesWorker n opened (b .worker)) protocol.badWorker _ _ (falls (b .worker)) (λ e.
       same-if _ (leb stepsLimit (readSteps firsts opened (b .worker) i)) protocol.tooManySteps _ _
       (ap (λ (j : ℕ). leb stepsLimit j) (read-steps (b .worker) (let h = good-worker n opened (b .worker) e .1 in omega arith))) (λ _.
-      same-if _ (operandsOutside (rowOf (b .op)) (b .register) (b .number)) protocol.badOperand _ _ refl (λ e.
+      same-if _ (wrongOperand (recordOf b)) protocol.badOperand _ _ refl (λ e.
       same-if _ (eqb (b .op) opBarrier && eqb (getD sizes (b .number) 0) 0) protocol.noSize holds holds (unsized b e) (λ _. refl)))))
 
   -- where no barrier record can stand, the code's rule of a later record is the protocol's
@@ -144,12 +144,12 @@ module _ {file : List ℕ} {i n : ℕ} {sizes : List ℕ} {opened : ℕ} {firsts
       go false true = refl
       go false false = refl
 
-  -- the record is taken: a step, since no barrier record passes here
+  -- the record is taken: a step, since no barrier record rule-parts here
   module _ (h : keptRule n opened sizes firsts i b ≡ holds) where
     step-of : StepTaken (before file i) (recordOf b)
     step-of =
         ⊎-elim
-        (λ t. absurd (true≢false (sym (t .barrier) ∙ passes (eqb (b .op) opBarrierRecord) protocol.badBarrier (keptStepRule n opened sizes firsts i b) (passes (eqb (b .op) opPlanRecord) protocol.badPlan _ h .1) .0)))
+        (λ t. absurd (true≢false (sym (t .barrier) ∙ rule-parts _ protocol.badBarrier (keptStepRule n opened sizes firsts i b) (rule-parts (eqb (b .op) opPlanRecord) protocol.badPlan _ h .1) .0)))
         (λ t. t)
         (later-taken (before file i) (recordOf b) (later-rule ∙ h))
 
@@ -187,9 +187,9 @@ module _ {file : List ℕ} {i n : ℕ} {sizes : List ℕ} {opened : ℕ} {firsts
         more = before-more file i ∙ ap (λ (r : Record). before file i ++ one r) same
 
 -- all records read
-pub all-read : (file : List ℕ) (count : ℕ) → verdictFrom file count count ≡ protocol.checkSkips 0 (before file count)
+pub read-through : (file : List ℕ) (count : ℕ) → verdictFrom file count count ≡ protocol.checkSkips 0 (before file count)
 unfolding protocol.checkRecords recordsFrom
-all-read file count = ap (λ (k : ℕ). protocol.checkRecords (before file count) (recordsFrom file k count)) none-left
+read-through file count = ap (λ (k : ℕ). protocol.checkRecords (before file count) (recordsFrom file k count)) none-left
   where
     none-left : count - count ≡ 0
     none-left = omega arith

@@ -1,11 +1,9 @@
 -- The code's enums and structs as the protocol's definitions have them.
-use Prim.Native.Nat.{ℕ, _<_, _≤_}
+use Prim.Native.Nat.{ℕ, _≤_}
 use mathlib.Core.Bool.{cond}
 use mathlib.Core.Path.{_≡_}
-use mathlib.Core.List.{List}
-use mathlib.Core.Option.{Option, none, some}
-use lib.Dec.{ltb, eqb}
-use lib.ListN.{getD}
+use mathlib.Core.Option.{none, some}
+use lib.Dec.{eqb}
 use Rattle.protocol.specs.Format as format
 use Rattle.protocol.specs.Refusals as protocol
 use Rattle.plan.specs.declared.answer.Refusal.{Refusal}
@@ -54,4 +52,4 @@ decodedOf r = cond (eqb (r .mark) format.planMark) (Read (bodyOf r)) Unmarked
 
 -- the index is that of a record
 abbrev pub Indexed : Verdict → Type 0
-Indexed v = (f : protocol.Refusal) (i : ℕ) → verdictOf v ≡ protocol.refused f i → i ≤ 1033
+Indexed v = (f : protocol.Refusal) (i : ℕ) → verdictOf v ≡ protocol.refused f i → i ≤ format.recordsLimit

@@ -1,16 +1,13 @@
 -- What the check of a file answers.
 use Prim.Native.Nat.{ℕ, _+_, _<_}
-use mathlib.Core.Bool.{Bool, not, _||_}
 use mathlib.Core.Path.{_≡_}
 use mathlib.Core.List.{List}
-use lib.Dec.{ltb, eqb}
 use lib.ListN.{length, getD}
 use Rattle.protocol.specs.Format.{barrierCount, workersLimit, records, workersIn, sizeIn, firstIn}
 use Rattle.protocol.specs.Refusals as protocol
 use Rattle.plan.specs.Answer.{verdictOf}
 use Rattle.plan.specs.declared.check.Checked.{Checked}
 use Rattle.plan.specs.declared.check.Layout.{Layout}
-use Rattle.plan.specs.declared.decode.Record.{Record}
 
 -- the layout of a file's records
 pub record LaidOut (file : List ℕ) (l : Layout) : Type 0 where

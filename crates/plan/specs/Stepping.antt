@@ -11,7 +11,7 @@ use Rattle.protocol.specs.Refusals as protocol
 use Rattle.protocol.specs.Refusals.{refuseIf, holds, outside}
 use Rattle.protocol.specs.Calls.{both}
 use Rattle.format.specs.declared.table.Row.{Row}
-use Rattle.plan.specs.Answer.{verdictOf}
+use Rattle.plan.specs.Answer.{recordOf, verdictOf}
 use Rattle.plan.specs.Reading.{fileRecord, before, verdictFrom, RulesHold, BarriersSoFar}
 use Rattle.plan.specs.declared.decode.Record.{Record}
 use Rattle.plan.specs.declared.answer.Verdict.{Verdict}
@@ -35,7 +35,7 @@ noStep op = cond (eqb op opPlanRecord) protocol.badPlan (cond (eqb op opBarrierR
 -- and of any record.
 abbrev pub keptOperandRule : List ℕ → Record → protocol.Rule
 keptOperandRule sizes r =
-    refuseIf (protocol.operandsOutside (format.rowOf (r .op)) (r .register) (r .number)) protocol.badOperand
+    refuseIf (protocol.wrongOperand (recordOf r)) protocol.badOperand
     (refuseIf (eqb (r .op) opBarrier && eqb (getD sizes (r .number) 0) 0) protocol.noSize holds)
 
 abbrev pub keptStepRule : ℕ → ℕ → List ℕ → List ℕ → ℕ → Record → protocol.Rule

@@ -13,7 +13,7 @@ ghost use lib.ListN.{length};
 ghost use Rattle.plan.specs.Answer.{verdictOf};
 ghost use Rattle.plan.specs.Reading.{before};
 ghost use Rattle.plan.specs.Skipping.{tooFar, SkipChecking};
-ghost use Rattle.protocol.specs.Format.{recordLength, workersLimit, isSkip};
+ghost use Rattle.protocol.specs.Format.{recordLength, recordsLimit, workersLimit, isSkip};
 ghost use Rattle.protocol.specs.Refusals.{checkSkips};
 
 fn is_skip(op: u8) -> bool
@@ -28,7 +28,7 @@ fn is_skip(op: u8) -> bool
 // Whether record i is a skip that leaves its worker's steps.
 fn too_far(r: Record, i: usize, firsts: &[usize; WORKERS_LIMIT + 1]) -> bool
     requires { ⌜ (isSkip (r .op) ≡ true → r .worker < workersLimit) ⌝ }
-    requires { ⌜ i < 65536 ⌝ }
+    requires { ⌜ i < recordsLimit ⌝ }
     ensures { λ b. ⌜ b ≡ tooFar (now (firsts .entry)) i r ⌝ }
 {
     if !is_skip(r.op) {
@@ -41,7 +41,7 @@ fn too_far(r: Record, i: usize, firsts: &[usize; WORKERS_LIMIT + 1]) -> bool
 // The first skip too far, if there is one.
 pub fn check_skips(file: &[u8], count: usize, firsts: &[usize; WORKERS_LIMIT + 1]) -> Verdict
     requires { ⌜ recordLength * count ≤ length (now file) ⌝ }
-    requires { ⌜ count < 65536 ⌝ }
+    requires { ⌜ count ≤ recordsLimit ⌝ }
     requires { ⌜ SkipChecking (now file) count (now firsts) ⌝ }
     ensures { λ r. ⌜ verdictOf r ≡ checkSkips 0 (before (now (file .entry)) count) ⌝ }
 {

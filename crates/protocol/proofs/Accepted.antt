@@ -1,6 +1,6 @@
 -- What an accepted file is: its records are read as `Prefix` says, its skips stay inside, and the plan that it holds is sound.
 use Prim.Native.Nat.{ℕ, zero, suc, _+_, _*_, _%_, _<_, _≤_}
-use mathlib.Core.Bool.{Bool, true, false, cond, not, _&&_, _||_, false≢true}
+use mathlib.Core.Bool.{Bool, true, false, cond, not, _&&_, false≢true}
 use mathlib.Core.Path.{_≡_, refl, sym, ap, _∙_, subst, subst⁻¹}
 use mathlib.Core.List.{List, [], _∷_, _++_, append-assoc, append-nil}
 use mathlib.Core.Option.{none, some}
@@ -9,15 +9,17 @@ use native.Mathlib.Decide.{decLt}
 use lib.Dec.{ltb, eqb}
 use lib.ListN.{length, getD, drop, length-append, length-map, List·getD-eq-default}
 use borrow.Author.Tests.{ltb-false, eqb-true, eqb-false, not-false}
-use Rattle.protocol.specs.Format.{Record, recordLength, fileLimit, planMark, known, rowIn, recordCount, records, isStep, isSkip, workersIn, stepsIn, Step, sync, exit, own, skipZero, skipNonzero, firstIn, sizeIn, barrierCount, upTo, planIn, planOf}
-use Rattle.protocol.specs.Refusals.{Refusal, Rule, Verdict, accepted, refused, ruled, holds, badMark, badPlan, badLength, wrongLength, wrongPlan, lengthRule, planRule, laterRule, recordRule, skipTooFar, skipRule, checkSkips, checkRecords, check}
+use Rattle.protocol.specs.Format.{Record, recordLength, fileLimit, recordsLimit, planMark, known, rowIn, recordCount, records, isStep, isSkip, workersIn, stepsIn, Step, sync, exit, workersLimit}
+use Rattle.protocol.specs.Format.{own, skipZero, skipNonzero, firstIn, sizeIn, barrierCount, upTo, planIn, planOf}
+use Rattle.protocol.specs.Refusals.{Refusal, Rule, Verdict, accepted, refused, ruled, holds, badMark, badPlan, badLength, wrongLength, wrongPlan, lengthRule, planRule, laterRule}
+use Rattle.protocol.specs.Refusals.{recordRule, skipTooFar, skipRule, checkSkips, checkRecords, check}
 use Rattle.protocol.specs.Steps.{stepsOf, stepAt}
 use Rattle.protocol.specs.Turns.{workersOf}
-use Rattle.protocol.specs.WellFormed.{blank, PlanRecord}
-use Rattle.protocol.proofs.Bools.{or-false, or-left, or-right, and-left, and-right}
+use Rattle.protocol.specs.WellFormed.{blank}
+use Rattle.protocol.proofs.Bools.{and-left, and-right}
 use Rattle.protocol.proofs.Lists.{length-countFrom, length-recordsFrom, mapped}
 use Rattle.protocol.proofs.Records.{one, first-unopened, first-inside}
-use Rattle.protocol.proofs.Taken.{passes, none-of, plan-record}
+use Rattle.protocol.proofs.Taken.{rule-parts, none-of, plan-record}
 use Rattle.protocol.proofs.Tabled.{stepOp, skipLength, step-op, step-skip}
 use Rattle.protocol.proofs.Sound.{Sound}
 use Rattle.protocol.proofs.Prefix.{Read, read-first, read-more}
@@ -27,18 +29,18 @@ pub accepts : (rule : Rule) (i : ℕ) (next : Verdict) → ruled rule i next ≡
 accepts none i next e = (refl, e)
 accepts (some f) i next e = let z : _≡_ {A = ℕ} 0 1 = cc in absurd (omega arith)
 
-pub record Whole (rs : List Record) : Type 0 where
+pub record WholeRead (rs : List Record) : Type 0 where
   pub read : Read rs
   pub skips : checkSkips 0 rs ≡ accepted
 
-all-read : (q : Record) (qs rest : List Record) → Read (q ∷ qs) → checkRecords (q ∷ qs) rest ≡ accepted → Whole ((q ∷ qs) ++ rest)
+all-read : (q : Record) (qs rest : List Record) → Read (q ∷ qs) → checkRecords (q ∷ qs) rest ≡ accepted → WholeRead ((q ∷ qs) ++ rest)
 unfolding checkRecords recordRule
 all-read q qs [] read e =
-    subst⁻¹ Whole (append-nil (q ∷ qs)) (record { read = read; skips = e })
+    subst⁻¹ WholeRead (append-nil (q ∷ qs)) (record { read = read; skips = e })
 all-read q qs (r ∷ rest) read e =
     let t = accepts (recordRule (q ∷ qs) r) (length (q ∷ qs)) (checkRecords ((q ∷ qs) ++ one r) rest) e in
-    let later = passes (not (eqb (r .mark) planMark)) badMark (laterRule (q ∷ qs) r) (t .0) .1 in
-    subst Whole (append-assoc (q ∷ qs) (one r) rest)
+    let later = rule-parts (not (eqb (r .mark) planMark)) badMark (laterRule (q ∷ qs) r) (t .0) .1 in
+    subst WholeRead (append-assoc (q ∷ qs) (one r) rest)
     (all-read q (qs ++ one r) rest (read-more q qs r read later) (t .1))
 
 -- the rule of each skip holds, with the records behind it
@@ -51,7 +53,7 @@ skips-hold (r ∷ rs) i (suc k) e h = skips-hold rs (suc i) k (accepts (skipRule
 -- An accepted file's records.
 pub record Accepted (rs : List Record) : Type 0 where
   pub least : 1 ≤ workersIn rs
-  pub most : workersIn rs ≤ 8
+  pub most : workersIn rs ≤ workersLimit
   pub read : Read rs
   pub skips : (k : ℕ) → k < length rs → skipRule (getD rs k blank) (drop (suc k) rs) ≡ holds
 
@@ -60,7 +62,7 @@ unfolding checkRecords recordRule planRule known rowIn
 accepted-records [] n e = absurd (n refl)
 accepted-records (r ∷ rest) n e =
     let t = accepts (recordRule [] r) 0 (checkRecords (one r) rest) e in
-    let p = plan-record r (passes (wrongPlan r) badPlan holds (passes (not (eqb (r .mark) planMark)) badMark (planRule r) (t .0) .1) .0) in
+    let p = plan-record r (rule-parts (wrongPlan r) badPlan holds (rule-parts (not (eqb (r .mark) planMark)) badMark (planRule r) (t .0) .1) .0) in
     let w = all-read r [] rest (read-first r (ap (λ (o : ℕ). eqb o 1) (p .op)) (ap known (p .op))) (t .1) in
     record {
       least = p .least;
@@ -71,7 +73,7 @@ accepted-records (r ∷ rest) n e =
 
 pub record Length (file : List ℕ) : Type 0 where
   pub some : 1 ≤ recordCount file
-  pub most : recordCount file ≤ 1033
+  pub most : recordCount file ≤ recordsLimit
   pub bytes : length file ≡ recordLength * recordCount file
 
 pub length-right : (file : List ℕ) → wrongLength (length file) ≡ false → Length file
@@ -87,7 +89,7 @@ length-right file e =
 -- the rule of the length
 pub length-ruled : (file : List ℕ) → lengthRule (length file) ≡ holds → Length file
 unfolding lengthRule
-length-ruled file e = length-right file (passes (wrongLength (length file)) badLength holds e .0)
+length-ruled file e = length-right file (rule-parts (wrongLength (length file)) badLength holds e .0)
 
 pub length-records : (file : List ℕ) → length (records file) ≡ recordCount file
 unfolding records
@@ -151,7 +153,7 @@ module _ (rs : List Record) (a : Accepted rs) where
       let far : skipLength (getD (stepsIn rs w) k (sync exit)) ≡ r .number
       = ap skipLength (s .step) ∙ (step-skip r step ∙ ap (λ (b : Bool). cond b (r .number) 0) skips) in
       let at : firstIn rs w + k < length rs = let t = a .read .together w in let i = first-inside rs (suc w) in omega arith in
-      let rule = passes (isSkip (r .op) && ltb left (r .number)) skipTooFar holds (a .skips (firstIn rs w + k) at) .0 in
+      let rule = rule-parts (isSkip (r .op) && ltb left (r .number)) skipTooFar holds (a .skips (firstIn rs w + k) at) .0 in
       let enough : r .number ≤ left
       = ltb-false left (r .number) (sym (ap (λ (b : Bool). b && ltb left (r .number)) skips) ∙ rule) in
       let same = ap (λ (v : ℕ). length (stepsIn (drop (suc (firstIn rs w + k)) rs) v)) own in
@@ -209,11 +211,11 @@ records-index before (r ∷ rs) j f e =
     go none later q = later q
     go (some g) later q = let s : length before ≡ j = cc in omega arith
 
-pub check-index : (file : List ℕ) (j : ℕ) (f : Refusal) → check file ≡ refused f j → j ≤ 1033
+pub check-index : (file : List ℕ) (j : ℕ) (f : Refusal) → check file ≡ refused f j → j ≤ recordsLimit
 unfolding check
 check-index file j f e = go (lengthRule (length file)) refl e
   where
-    go : (rule : Rule) → lengthRule (length file) ≡ rule → ruled rule 0 (checkRecords [] (records file)) ≡ refused f j → j ≤ 1033
+    go : (rule : Rule) → lengthRule (length file) ≡ rule → ruled rule 0 (checkRecords [] (records file)) ≡ refused f j → j ≤ recordsLimit
     go none p q =
         let l = records-index [] (records file) j f q in
         let n = length-records file in

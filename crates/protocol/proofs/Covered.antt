@@ -10,9 +10,11 @@ use lib.Dec.{leb, ltb, eqb}
 use lib.ListN.{length, getD, take, List·getD-append}
 use lib.Seq.{getD-append-seam, take-append-seam}
 use borrow.Author.Tests.{ltb-true, ltb-false, leb-true, leb-false, eqb-true, eqb-false, not-true, not-false, lt-ltb, le-ltb, le-leb, lt-leb, eq-eqb}
-use Rattle.protocol.specs.Format.{Record, Row, planMark, rowIn, rowOf, known, isBarrier, isStep, workersIn, stepsIn, barrierCount}
-use Rattle.protocol.specs.Refusals.{Refusal, badMark, badPlan, badBarrier, badWorker, badOp, badOperand, tooManySteps, noSize, Verdict, accepted, Rule, holds, refuseIf, ruled, anyOf, outside, wrongPlan, planRule, wrongBarrier, barrierRecordRule, operandsOutside, stepRule, laterRule, recordRule}
-use Rattle.protocol.specs.WellFormed.{blank, recordAt, PlanRecord, BarrierRecord}
+use Rattle.protocol.specs.Ops.{opBarrier}
+use Rattle.protocol.specs.Format.{Record, Row, planMark, rowIn, rowOf, known, isBarrier, isStep, workersIn, stepsIn, barrierCount, sizeLimit, stepsLimit, workersLimit}
+use Rattle.protocol.specs.Refusals.{Refusal, badMark, badPlan, badBarrier, badWorker, badOp, badOperand, tooManySteps, noSize, Verdict, accepted, Rule, holds, refuseIf, ruled, anyOf}
+use Rattle.protocol.specs.Refusals.{outside, wrongPlan, planRule, wrongBarrier, wrongOperand, wrongWorker, lacksSize, barrierRecordRule, operandsOutside, stepRule, laterRule, recordRule}
+use Rattle.protocol.specs.WellFormed.{blank, PlanRecord, BarrierRecord}
 use Rattle.protocol.specs.Conditions.{NoMark, Before, BarrierAmiss, UnknownOp, WorkerAmiss, StepBeyond, OperandOutside, SizeMissing, Test, test, testsOf, recordTests, FirstDue}
 use Rattle.protocol.proofs.Bools.{split, or-left, or-right, and-left, and-right}
 use Rattle.protocol.proofs.Records.{one, names}
@@ -78,7 +80,7 @@ unfolding known
 row-known o x e = ap (λ (y : Option Row). elim y [ none ↦ false | some z ↦ true ]) e
 
 -- operands that are in the ranges of their row
-pub operands-inside : (r : Record) (x : Row) → rowOf (r .op) ≡ some x → operandsOutside (rowOf (r .op)) (r .register) (r .number) ≡ false
+pub operands-inside : (r : Record) (x : Row) → rowOf (r .op) ≡ some x → wrongOperand r ≡ false
     → (r .register ≤ x .registers) × (x .least ≤ r .number) × (r .number ≤ x .most)
 unfolding operandsOutside
 operands-inside r x row e =
@@ -107,7 +109,7 @@ module _ (rs : List Record) (i : ℕ) (r : Record) where
       ∷ test noSize i (SizeMissing rs i r)
       ∷ []
 
-  no-step : isStep r ≡ false → (UnknownOp r → ⊥) → (r .op ≡ 37 → ⊥) → Covers stepTests holds i
+  no-step : isStep r ≡ false → (UnknownOp r → ⊥) → (r .op ≡ opBarrier → ⊥) → Covers stepTests holds i
   no-step unknown named other =
       passes-by named
       (passes-by (λ (d : WorkerAmiss rs i r). false≢true (sym unknown ∙ d .0))
@@ -131,7 +133,7 @@ first-covers behind r =
   where
     whole : PlanRecord r → wrongPlan r ≡ false
     whole p =
-        simp (eq-eqb _ _ (p .op), eq-eqb _ _ (p .register), eq-eqb _ _ (p .number), le-ltb (r .worker) 1 (p .least), le-ltb 8 (r .worker) (p .most))
+        simp (eq-eqb _ _ (p .op), eq-eqb _ _ (p .register), eq-eqb _ _ (p .number), le-ltb (r .worker) 1 (p .least), le-ltb workersLimit (r .worker) (p .most))
 
 -- a later record r, behind q ∷ qs
 module _ (q : Record) (qs behind : List Record) (r : Record) where
@@ -163,7 +165,7 @@ module _ (q : Record) (qs behind : List Record) (r : Record) where
 
   in-range : BarrierRecord r → wrongBarrier r ≡ false
   in-range b =
-      simp (eq-eqb _ _ (b .worker), lt-leb barrierCount (r .register) (b .barrier), le-ltb (r .number) 1 (b .least), le-ltb 8 (r .number) (b .most))
+      simp (eq-eqb _ _ (b .worker), lt-leb barrierCount (r .register) (b .barrier), le-ltb (r .number) 1 (b .least), le-ltb sizeLimit (r .number) (b .most))
 
   abbrev Higher : Record → Type 0
   Higher p = (isBarrier p ≡ true) × (r .register ≤ p .register)
@@ -198,7 +200,7 @@ module _ (q : Record) (qs behind : List Record) (r : Record) where
   abbrev Lower : Record → Type 0
   Lower p = (isStep p ≡ true) × (r .worker < p .worker)
 
-  worker-due : isStep r ≡ true → leb (workersIn taken) (r .worker) || anyOf lower taken ≡ true → WorkerAmiss all index r
+  worker-due : isStep r ≡ true → wrongWorker taken r ≡ true → WorkerAmiss all index r
   worker-due s e = (
     s,
     ⊎-elim (λ h. inl (leb-true (workersIn taken) (r .worker) h))
@@ -206,7 +208,7 @@ module _ (q : Record) (qs behind : List Record) (r : Record) where
         (or-cases (leb (workersIn taken) (r .worker)) (anyOf lower taken) e),
   )
 
-  worker-right : leb (workersIn taken) (r .worker) || anyOf lower taken ≡ false → WorkerAmiss all index r → ⊥
+  worker-right : wrongWorker taken r ≡ false → WorkerAmiss all index r → ⊥
   worker-right e h =
       ⊎-elim
       (λ l. let m = leb-false (workersIn taken) (r .worker) (or-left (leb (workersIn taken) (r .worker)) (anyOf lower taken) e) in omega arith)
@@ -216,7 +218,7 @@ module _ (q : Record) (qs behind : List Record) (r : Record) where
   counted : length (stepsIn taken (r .worker)) ≡ length (stepsIn (take index all) (r .worker))
   counted = ap (λ (rs : List Record). length (stepsIn rs (r .worker))) (sym (take-append-seam taken (r ∷ behind)))
 
-  operand-due : isStep r ≡ true → operandsOutside (rowOf (r .op)) (r .register) (r .number) ≡ true → OperandOutside r
+  operand-due : isStep r ≡ true → wrongOperand r ≡ true → OperandOutside r
   unfolding operandsOutside
   operand-due s e =
       let x = known-row (r .op) s in
@@ -228,7 +230,7 @@ module _ (q : Record) (qs behind : List Record) (r : Record) where
             (or-cases (ltb (x .0 .registers) (r .register)) (outside (x .0 .least) (x .0 .most) (r .number)) t),
       )
 
-  operand-right : operandsOutside (rowOf (r .op)) (r .register) (r .number) ≡ false → OperandOutside r → ⊥
+  operand-right : wrongOperand r ≡ false → OperandOutside r → ⊥
   operand-right e h =
       let t = operands-inside r (h .0) (h .1) e in
       let register = t .0 in
@@ -236,19 +238,19 @@ module _ (q : Record) (qs behind : List Record) (r : Record) where
       let most = t .2 in
       ⊎-elim (λ l. omega arith) (⊎-elim (λ l. omega arith) (λ l. omega arith)) (h .2)
 
-  abbrev Sizes : Record → Type 0
-  Sizes p = (isBarrier p ≡ true) × (p .register ≡ r .number)
+  abbrev NamesIt : Record → Type 0
+  NamesIt p = (isBarrier p ≡ true) × (p .register ≡ r .number)
 
-  size-due : eqb (r .op) 37 && not (anyOf (names (r .number)) taken) ≡ true → SizeMissing all index r
+  size-due : lacksSize taken r ≡ true → SizeMissing all index r
   size-due e = (
-    eqb-true (r .op) 37 (and-left (eqb (r .op) 37) _ e),
-    missing (names (r .number)) Sizes (λ p h. and-true (h .0) (eq-eqb _ _ (h .1))) (not-true _ (and-right (eqb (r .op) 37) _ e)),
+    eqb-true (r .op) opBarrier (and-left (eqb (r .op) opBarrier) _ e),
+    missing (names (r .number)) NamesIt (λ p h. and-true (h .0) (eq-eqb _ _ (h .1))) (not-true _ (and-right (eqb (r .op) opBarrier) _ e)),
   )
 
-  size-right : eqb (r .op) 37 && not (anyOf (names (r .number)) taken) ≡ false → SizeMissing all index r → ⊥
+  size-right : lacksSize taken r ≡ false → SizeMissing all index r → ⊥
   size-right e h =
       h .1
-      (found (names (r .number)) Sizes (λ p n. (and-left (isBarrier p) _ n, eqb-true _ _ (and-right (isBarrier p) _ n)))
+      (found (names (r .number)) NamesIt (λ p n. (and-left (isBarrier p) _ n, eqb-true _ _ (and-right (isBarrier p) _ n)))
       (not-false _ (sym (ap (λ (b : Bool). b && not (anyOf (names (r .number)) taken)) (eq-eqb _ _ (h .0))) ∙ e)))
 
   steps-cover : isBarrier r ≡ false → eqb (r .op) 0 ≡ false → Covers (stepTests all index r) (stepRule taken r) index
@@ -257,15 +259,15 @@ module _ (q : Record) (qs behind : List Record) (r : Record) where
       covers (not (known (r .op))) badOp _ (λ e. (eqb-false (r .op) 0 z, b, not-true _ e)) (λ e d. absurd (false≢true (sym (d .2) ∙ not-false _ e)))
       (λ e.
       let s : isStep r ≡ true = not-false _ e in
-      covers (leb (workersIn taken) (r .worker) || anyOf lower taken) badWorker _ (worker-due s) worker-right
+      covers (wrongWorker taken r) badWorker _ (worker-due s) worker-right
       (λ w.
-      covers (leb 128 (length (stepsIn taken (r .worker)))) tooManySteps _
-      (λ l. (s, omega (arith, leb-true 128 (length (stepsIn taken (r .worker))) l, counted)))
-      (λ l d. omega (arith, leb-false 128 (length (stepsIn taken (r .worker))) l, counted, d .1))
+      covers (leb stepsLimit (length (stepsIn taken (r .worker)))) tooManySteps _
+      (λ l. (s, omega (arith, leb-true stepsLimit (length (stepsIn taken (r .worker))) l, counted)))
+      (λ l d. omega (arith, leb-false stepsLimit (length (stepsIn taken (r .worker))) l, counted, d .1))
       (λ l.
-      covers (operandsOutside (rowOf (r .op)) (r .register) (r .number)) badOperand _ (operand-due s) operand-right
+      covers (wrongOperand r) badOperand _ (operand-due s) operand-right
       (λ o.
-      covers (eqb (r .op) 37 && not (anyOf (names (r .number)) taken)) noSize holds size-due size-right
+      covers (lacksSize taken r) noSize holds size-due size-right
       (λ m. covers-none index)))))
 
   later-covers : Covers (testsOf all index r) (recordRule taken r) index

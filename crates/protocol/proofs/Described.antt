@@ -9,12 +9,13 @@ use lib.Dec.{leb, eqb}
 use lib.ListN.{length, take, length-take}
 use lib.Seq.{getD-take}
 use borrow.Author.Tests.{ltb-false, leb-false, le-ltb, eqb-true, not-false, eq-eqb}
+use Rattle.protocol.specs.Ops.{opBarrier}
 use Rattle.protocol.specs.Format.{Record, planMark, isBarrier, isStep, isSkip, workersIn}
 use Rattle.protocol.specs.Refusals.{badMark, accepted, holds, anyOf, planRule, laterRule, recordRule, skipTooFar, skipRule, checkRecords, wrongPlan, badPlan}
 use Rattle.protocol.specs.WellFormed.{blank, recordAt, PlanRecord, BarrierRecord, StepRecord, stepsBehind, FormedRecords}
 use Rattle.protocol.proofs.Bools.{and-left, and-right}
-use Rattle.protocol.proofs.Records.{one, reaches, picks, openedIn, names}
-use Rattle.protocol.proofs.Taken.{passes, plan-record, BarrierTaken, StepTaken, later-taken}
+use Rattle.protocol.proofs.Records.{one, any-reaches, picks, openedIn, names}
+use Rattle.protocol.proofs.Taken.{rule-parts, plan-record, BarrierTaken, StepTaken, later-taken}
 use Rattle.protocol.proofs.Accepted.{accepts, accepted-records}
 use Rattle.protocol.proofs.Covered.{any-there, any-none, known-row, operands-inside}
 
@@ -32,8 +33,8 @@ rules-hold before (r ∷ rest) e (suc i) h =
 
 rule-mark : (before : List Record) (r : Record) → recordRule before r ≡ holds → r .mark ≡ planMark
 unfolding recordRule
-rule-mark [] r e = eqb-true (r .mark) planMark (not-false _ (passes (not (eqb (r .mark) planMark)) badMark (planRule r) e .0))
-rule-mark (q ∷ qs) r e = eqb-true (r .mark) planMark (not-false _ (passes (not (eqb (r .mark) planMark)) badMark (laterRule (q ∷ qs) r) e .0))
+rule-mark [] r e = eqb-true (r .mark) planMark (not-false _ (rule-parts (not (eqb (r .mark) planMark)) badMark (planRule r) e .0))
+rule-mark (q ∷ qs) r e = eqb-true (r .mark) planMark (not-false _ (rule-parts (not (eqb (r .mark) planMark)) badMark (laterRule (q ∷ qs) r) e .0))
 
 step-record : (before : List Record) (r : Record) → StepTaken before r → StepRecord (workersIn before) r
 step-record before r t =
@@ -47,14 +48,14 @@ module _ (q : Record) (qs : List Record) (ok : checkRecords [] (q ∷ qs) ≡ ac
 
   first-rule : planRule q ≡ holds
   unfolding recordRule
-  first-rule = passes (not (eqb (q .mark) planMark)) badMark (planRule q) (rules-hold [] rs ok 0 (omega arith)) .1
+  first-rule = rule-parts (not (eqb (q .mark) planMark)) badMark (planRule q) (rules-hold [] rs ok 0 (omega arith)) .1
 
   taken : (i : ℕ) → 1 ≤ i → i < length rs → BarrierTaken (take i rs) (recordAt rs i) ⊎ StepTaken (take i rs) (recordAt rs i)
   unfolding recordRule
   taken zero l h = absurd (omega arith)
   taken (suc i) l h =
       later-taken (q ∷ take i qs) (recordAt qs i)
-      (passes (not (eqb (recordAt qs i .mark) planMark)) badMark (laterRule (q ∷ take i qs) (recordAt qs i)) (rules-hold [] rs ok (suc i) h) .1)
+      (rule-parts (not (eqb (recordAt qs i .mark) planMark)) badMark (laterRule (q ∷ take i qs) (recordAt qs i)) (rules-hold [] rs ok (suc i) h) .1)
 
   taken-barrier : (i : ℕ) → 1 ≤ i → i < length rs → isBarrier (recordAt rs i) ≡ true → BarrierTaken (take i rs) (recordAt rs i)
   taken-barrier i l h b = ⊎-elim (λ t. t) (λ t. absurd (false≢true (sym (t .noBarrier) ∙ b))) (taken i l h)
@@ -80,7 +81,7 @@ module _ (q : Record) (qs : List Record) (ok : checkRecords [] (q ∷ qs) ≡ ac
       leb-false _ _
       (not-both (isBarrier (recordAt rs i)) _
       (none-before (λ p. isBarrier p && leb (recordAt rs j .register) (p .register)) i j l h
-      (reaches isBarrier (λ p. p .register) (recordAt rs j .register) (take j rs) ∙ le-ltb _ _ (t .ascends)))
+      (any-reaches isBarrier (λ p. p .register) (recordAt rs j .register) (take j rs) ∙ le-ltb _ _ (t .ascends)))
       b)
 
   steps-last : (i j : ℕ) → i < j → j < length rs → isStep (recordAt rs i) ≡ true → isBarrier (recordAt rs j) ≡ true → ⊥
@@ -96,20 +97,20 @@ module _ (q : Record) (qs : List Record) (ok : checkRecords [] (q ∷ qs) ≡ ac
       let lower = leb-false (suc (recordAt rs j .worker)) (recordAt rs i .worker)
       (not-both (isStep (recordAt rs i)) _
       (none-before (λ p. isStep p && leb (suc (recordAt rs j .worker)) (p .worker)) i j l h
-      (reaches isStep (λ p. p .worker) (suc (recordAt rs j .worker)) (take j rs) ∙ le-ltb _ _ (t .level)))
+      (any-reaches isStep (λ p. p .worker) (suc (recordAt rs j .worker)) (take j rs) ∙ le-ltb _ _ (t .level)))
       s) in
       omega arith
 
   first-is : PlanRecord q
   unfolding planRule
-  first-is = plan-record q (passes (wrongPlan q) badPlan holds first-rule .0)
+  first-is = plan-record q (rule-parts (wrongPlan q) badPlan holds first-rule .0)
 
   later : (i : ℕ) → 1 ≤ i → i < length rs → BarrierRecord (recordAt rs i) ⊎ StepRecord (workersIn rs) (recordAt rs i)
   later zero l h = absurd (omega arith)
   later (suc i) l h =
       ⊎-elim (λ t. inl (t .formed)) (λ t. inr (step-record (take (suc i) rs) _ t)) (taken (suc i) l h)
 
-  sized : (j : ℕ) → j < length rs → recordAt rs j .op ≡ 37
+  sized : (j : ℕ) → j < length rs → recordAt rs j .op ≡ opBarrier
       → (i : ℕ) × (i < length rs) × (isBarrier (recordAt rs i) ≡ true) × (recordAt rs i .register ≡ recordAt rs j .number)
   sized zero h o = absurd (let z = first-is .op in omega arith)
   sized (suc j) h o = ⊎-elim (λ t. absurd (let z = eqb-true (recordAt rs (suc j) .op) 1 (t .barrier) in omega arith)) named (taken (suc j) (omega arith) h)
@@ -117,11 +118,13 @@ module _ (q : Record) (qs : List Record) (ok : checkRecords [] (q ∷ qs) ≡ ac
       named : StepTaken (take (suc j) rs) (recordAt rs (suc j))
           → (i : ℕ) × (i < length rs) × (isBarrier (recordAt rs i) ≡ true) × (recordAt rs i .register ≡ recordAt rs (suc j) .number)
       named t =
-          let s = any-there (names (recordAt rs (suc j) .number)) (take (suc j) rs) blank (not-false _ (not-both (eqb (recordAt rs (suc j) .op) 37) _ (t .sized) (eq-eqb _ _ o))) in
+          let r = recordAt rs (suc j) in
+          let s = any-there (names (r .number)) (take (suc j) rs) blank (not-false _ (not-both (eqb (r .op) opBarrier) _ (t .sized) (eq-eqb _ _ o))) in
           let n = length-take (suc j) rs in
           let l = s .1 in
-          let e = subst (λ (r : Record). names (recordAt rs (suc j) .number) r ≡ true) (getD-take (suc j) rs (s .0) blank (omega arith)) (s .2) in
-          (s .0, omega arith, and-left (isBarrier (recordAt rs (s .0))) _ e, omega (arith, eqb-true (recordAt rs (s .0) .register) (recordAt rs (suc j) .number) (and-right (isBarrier (recordAt rs (s .0))) _ e)))
+          let q = recordAt rs (s .0) in
+          let e = subst (λ (p : Record). names (r .number) p ≡ true) (getD-take (suc j) rs (s .0) blank (omega arith)) (s .2) in
+          (s .0, omega arith, and-left (isBarrier q) _ e, omega (arith, eqb-true (q .register) (r .number) (and-right (isBarrier q) _ e)))
 
   formed-records : FormedRecords (q ∷ qs)
   unfolding skipRule
@@ -138,7 +141,7 @@ module _ (q : Record) (qs : List Record) (ok : checkRecords [] (q ∷ qs) ≡ ac
         sized = λ j h o. let s = sized j h o in (s .0, s .1, s .2, omega (arith, s .3));
         skips =
             λ i h s.
-            omega (arith, ltb-false (stepsBehind rs i (recordAt rs i)) (recordAt rs i .number) (not-both (isSkip (recordAt rs i .op)) _ (passes _ skipTooFar holds (a .skips i h) .0) s));
+            omega (arith, ltb-false (stepsBehind rs i (recordAt rs i)) (recordAt rs i .number) (not-both (isSkip (recordAt rs i .op)) _ (rule-parts _ skipTooFar holds (a .skips i h) .0) s));
       }
 
 pub formed : (rs : List Record) → (length rs ≡ 0 → ⊥) → checkRecords [] rs ≡ accepted → FormedRecords rs

@@ -1,5 +1,5 @@
 -- The verdicts are those of the first test that is due: of the check, and of a run.
-use Prim.Native.Nat.{ℕ, zero, suc, _+_, _%_, _<_, _≤_}
+use Prim.Native.Nat.{ℕ, suc, _+_, _%_}
 use mathlib.Core.Bool.{Bool, true, false, not, _&&_, _||_, false≢true}
 use mathlib.Core.Path.{_≡_, sym, ap, _∙_, subst, subst⁻¹}
 use mathlib.Core.Logic.{inl, inr, ⊎-elim}
@@ -9,13 +9,13 @@ use lib.Dec.{leb, ltb, eqb}
 use lib.ListN.{length, getD, drop, length-append}
 use lib.Seq.{getD-append-seam, drop-append-add}
 use borrow.Author.Tests.{ltb-true, ltb-false, leb-true, leb-false, eqb-true, eqb-false, not-true, not-false, eq-eqb}
-use Rattle.protocol.specs.Format.{Record, fileLimit, records, planOf, isSkip, stepsIn}
-use Rattle.protocol.specs.Refusals.{badLength, skipTooFar, badBuffer, tooManyTurns, badTurn, Verdict, accepted, holds, refuseIf, lengthRule, skipRule, checkSkips, checkRecords, check, wrongLength}
+use Rattle.protocol.specs.Format.{Record, recordLength, fileLimit, records, planOf, isSkip, stepsIn}
+use Rattle.protocol.specs.Refusals.{badLength, skipTooFar, badBuffer, tooManyTurns, badTurn, Verdict, accepted, holds, lengthRule, skipRule, checkSkips, checkRecords, check, wrongLength}
 use Rattle.protocol.specs.Turns.{workersOf}
 use Rattle.protocol.specs.Calls.{Buffers, memoryLength, logLength, reportLength, workLength, turnsLimit, misfit, namesNobody, both, runVerdict}
 use Rattle.protocol.specs.WellFormed.{blank, Fitting}
 use Rattle.protocol.specs.Conditions.{LengthAmiss, SkipBeyond, Test, test, recordTests, skipTests, over, fileTests, runTests, FirstDue}
-use Rattle.protocol.proofs.Bools.{or-false, or-left, or-right, and-left, and-right}
+use Rattle.protocol.proofs.Bools.{or-left, or-right, and-left, and-right}
 use Rattle.protocol.proofs.Records.{one}
 use Rattle.protocol.proofs.Taken.{none-of}
 use Rattle.protocol.proofs.Accepted.{length-right, length-records}
@@ -82,7 +82,11 @@ length-covers : (file : List ℕ) → Covers (test badLength 0 (LengthAmiss file
 unfolding lengthRule
 length-covers file =
     covers (wrongLength (length file)) badLength holds
-    (λ e. ⊎-elim (λ l. ⊎-elim (λ z. inl (eqb-true (length file) 0 z)) (λ m. inr (inl (eqb-false (length file % 7) 0 (not-true _ m)))) (or-cases (eqb (length file) 0) _ l)) (λ l. inr (inr (ltb-true fileLimit (length file) l))) (or-cases (eqb (length file) 0 || not (eqb (length file % 7) 0)) _ e))
+    (λ e.
+    ⊎-elim
+    (λ l. ⊎-elim (λ z. inl (eqb-true (length file) 0 z)) (λ m. inr (inl (eqb-false (length file % recordLength) 0 (not-true _ m)))) (or-cases (eqb (length file) 0) _ l))
+    (λ l. inr (inr (ltb-true fileLimit (length file) l)))
+    (or-cases (eqb (length file) 0 || not (eqb (length file % recordLength) 0)) _ e))
     (λ e d. let l = length-right file e in
     let some = l .some in
     let most = l .most in

@@ -16,7 +16,8 @@ use Rattle.protocol.specs.Refusals.{Verdict, accepted, lengthRule, check
 use Rattle.protocol.specs.Turns.{workersOf}
 use Rattle.protocol.specs.Calls.{Buffers, misfit, turnsLimit, runVerdict}
 use Rattle.protocol.specs.WellFormed.{blank, recordAt, PlanRecord, BarrierRecord, StepRecord, FormedRecords, WellFormed, Runnable}
-use Rattle.protocol.specs.Conditions.{LengthAmiss, NoPlan, BarrierAmiss, UnknownOp, WorkerAmiss, StepBeyond, OperandOutside, SizeMissing, SkipBeyond, Test, recordTests, skipTests, over, fileTests, runTests, FirstDue}
+use Rattle.protocol.specs.Conditions.{LengthAmiss, NoPlan, BarrierAmiss, UnknownOp, WorkerAmiss, StepBeyond, OperandOutside, SizeMissing, SkipBeyond, Test, recordTests, skipTests}
+use Rattle.protocol.specs.Conditions.{over, fileTests, runTests, FirstDue}
 use Rattle.protocol.proofs.Bools.{split}
 use Rattle.protocol.proofs.Records.{one, stepsIn-append}
 use Rattle.protocol.proofs.Accepted.{accepts, length-ruled, length-records}

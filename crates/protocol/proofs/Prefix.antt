@@ -11,46 +11,48 @@ use lib.Dec.{leb, eqb}
 use lib.ListN.{length, getD, drop, length-append, drop-of-length-le, List·getD-append}
 use lib.Seq.{getD-at, drop-append-le}
 use borrow.Author.Tests.{eq-eqb, ne-eqb, leb-true, leb-false, eqb-true, eqb-false}
-use Rattle.protocol.specs.Format.{Record, Step, sync, exit, rowOf, isBarrier, isStep, isStepOf, workersIn, sizeIn, stepsIn, stepOf, firstIn}
-use Rattle.protocol.specs.Refusals.{anyOf, holds, operandsOutside, laterRule}
+use Rattle.protocol.specs.Ops.{opBarrier}
+use Rattle.protocol.specs.Format.{Record, Step, sync, exit, isBarrier, isStep, isStepOf, workersIn, sizeIn, stepsIn, stepOf, firstIn, sizeLimit, stepsLimit}
+use Rattle.protocol.specs.Refusals.{anyOf, holds, wrongOperand, lacksSize, laterRule}
 use Rattle.protocol.specs.WellFormed.{blank}
-use Rattle.protocol.proofs.Bools.{split, or-false, and-right}
-use Rattle.protocol.proofs.Records.{one, one-step, topIn, anyOf-one, topIn-kept, topIn-raised, openedIn, names, names-new, sizeIn-other, sizeIn-new, stepsIn-one, first-unopened, first-inside, first-grows, first-one-opened, first-one-unopened}
+use Rattle.protocol.proofs.Bools.{split, or-fails, and-right}
+use Rattle.protocol.proofs.Records.{one, one-step, topIn, anyOf-one, topIn-kept, topIn-raised, openedIn, names, names-new, sizeIn-other, sizeIn-new, stepsIn-one, first-unopened}
+use Rattle.protocol.proofs.Records.{first-inside, first-grows, first-one-opened, first-one-unopened}
 use Rattle.protocol.proofs.Taken.{StepTaken, BarrierTaken, later-taken}
 
 abbrev pub Together : List Record → Type 0
 Together rs = (w : ℕ) → firstIn rs w + length (stepsIn rs w) ≡ firstIn rs (suc w)
 
 -- step k of worker w stands at record first(w) + k, and the worker's later steps stand behind it
-pub record Stands (rs : List Record) (w k : ℕ) : Type 0 where
+pub record StepStands (rs : List Record) (w k : ℕ) : Type 0 where
   pub step : getD (stepsIn rs w) k (sync exit) ≡ stepOf (getD rs (firstIn rs w + k) blank)
   pub ofWorker : isStepOf w (getD rs (firstIn rs w + k) blank) ≡ true
   pub behind : length (stepsIn (drop (suc (firstIn rs w + k)) rs) w) + suc k ≡ length (stepsIn rs w)
 
 abbrev pub Placed : List Record → Type 0
-Placed rs = (w k : ℕ) → k < length (stepsIn rs w) → Stands rs w k
+Placed rs = (w k : ℕ) → k < length (stepsIn rs w) → StepStands rs w k
 
 -- a step, record i: its operands are in range, the barrier that it names has a size, and later workers' steps come later
-pub record Fits (rs : List Record) (i : ℕ) (r : Record) : Type 0 where
-  pub inside : operandsOutside (rowOf (r .op)) (r .register) (r .number) ≡ false
-  pub sized : eqb (r .op) 37 && not (anyOf (names (r .number)) rs) ≡ false
+pub record StepFits (rs : List Record) (i : ℕ) (r : Record) : Type 0 where
+  pub inside : wrongOperand r ≡ false
+  pub sized : lacksSize rs r ≡ false
   pub ends : i < firstIn rs (suc (r .worker))
 
 abbrev pub Fit : List Record → Type 0
-Fit rs = (i : ℕ) → i < length rs → isStep (getD rs i blank) ≡ true → Fits rs i (getD rs i blank)
+Fit rs = (i : ℕ) → i < length rs → isStep (getD rs i blank) ≡ true → StepFits rs i (getD rs i blank)
 
 -- a barrier that a record names has a size from 1 to 8, any other the size 0
-pub record Sized (rs : List Record) (b : ℕ) : Type 0 where
+pub record BarrierSized (rs : List Record) (b : ℕ) : Type 0 where
   pub found : anyOf (names b) rs ≡ not (eqb (sizeIn rs b) 0)
-  pub most : sizeIn rs b ≤ 8
+  pub most : sizeIn rs b ≤ sizeLimit
 
 pub record Read (rs : List Record) : Type 0 where
   pub opened : openedIn rs ≤ workersIn rs
   -- a worker's steps stand together, those of the next worker behind them
   pub together : Together rs
   pub placed : Placed rs
-  pub few : (w : ℕ) → length (stepsIn rs w) ≤ 128
-  pub sized : (b : ℕ) → Sized rs b
+  pub few : (w : ℕ) → length (stepsIn rs w) ≤ stepsLimit
+  pub sized : (b : ℕ) → BarrierSized rs b
   pub fit : Fit rs
 
 -- the parts of `Read` for one record more, by what the record is
@@ -102,10 +104,10 @@ module _ (rs : List Record) (r : Record) where
   together-step : StepTaken rs r → Together rs → Together (rs ++ one r)
   together-step t old w = omega (arith, old w, first-step t w, first-step t (suc w), count-step t w)
 
-  few-step : StepTaken rs r → ((w : ℕ) → length (stepsIn rs w) ≤ 128) → (w : ℕ) → length (stepsIn (rs ++ one r) w) ≤ 128
+  few-step : StepTaken rs r → ((w : ℕ) → length (stepsIn rs w) ≤ stepsLimit) → (w : ℕ) → length (stepsIn (rs ++ one r) w) ≤ stepsLimit
   few-step t old w = elim (ℕ-discrete (r .worker) w) [
     | yes q ↦
-        let h : length (stepsIn rs w) < 128 = subst (λ (v : ℕ). length (stepsIn rs v) < 128) q (t .few) in
+        let h : length (stepsIn rs w) < stepsLimit = subst (λ (v : ℕ). length (stepsIn rs v) < stepsLimit) q (t .few) in
         omega (arith, count-step t w)
     | no q ↦ omega (arith, old w, count-step t w)
   ]
@@ -114,7 +116,7 @@ module _ (rs : List Record) (r : Record) where
   one-more qs w = ap length (stepsIn-one qs r w) ∙ length-append (stepsIn qs w) (cond (isStepOf w r) (one-step r) [])
 
   -- an earlier step stands where it stood
-  stands-old : (w k : ℕ) → firstIn (rs ++ one r) w ≡ firstIn rs w → firstIn rs w + k < length rs → k < length (stepsIn rs w) → Stands rs w k → Stands (rs ++ one r) w k
+  stands-old : (w k : ℕ) → firstIn (rs ++ one r) w ≡ firstIn rs w → firstIn rs w + k < length rs → k < length (stepsIn rs w) → StepStands rs w k → StepStands (rs ++ one r) w k
   stands-old w k first h l old =
       let at : firstIn (rs ++ one r) w + k ≡ firstIn rs w + k = omega arith in
       let same = ap (λ (i : ℕ). getD (rs ++ one r) i blank) at ∙ List·getD-append rs (one r) blank (firstIn rs w + k) h in
@@ -131,7 +133,7 @@ module _ (rs : List Record) (r : Record) where
       }
 
   -- the new one is its worker's last
-  stands-new : (w k : ℕ) → isStepOf w r ≡ true → k ≡ length (stepsIn rs w) → firstIn (rs ++ one r) w + k ≡ length rs → Stands (rs ++ one r) w k
+  stands-new : (w k : ℕ) → isStepOf w r ≡ true → k ≡ length (stepsIn rs w) → firstIn (rs ++ one r) w + k ≡ length rs → StepStands (rs ++ one r) w k
   unfolding stepsIn
   stands-new w k own last at =
       let steps = stepsIn-one rs r w ∙ ap (λ (b : Bool). stepsIn rs w ++ cond b (one-step r) []) own in
@@ -167,26 +169,22 @@ module _ (rs : List Record) (r : Record) where
       ]
 
   -- the sizes of barriers
-  and-false : (a b c : Bool) → (b ≡ false → c ≡ false) → a && b ≡ false → a && c ≡ false
-  and-false true b c f e = f e
-  and-false false b c f e = refl
-
-  or-true-not : (a b : Bool) → not a ≡ false → not (a || b) ≡ false
-  or-true-not true b e = refl
-  or-true-not false b e = absurd (true≢false e)
-
-  sized-more : (q : Record) → eqb (q .op) 37 && not (anyOf (names (q .number)) rs) ≡ false → eqb (q .op) 37 && not (anyOf (names (q .number)) (rs ++ one r)) ≡ false
+  sized-more : (q : Record) → lacksSize rs q ≡ false → lacksSize (rs ++ one r) q ≡ false
   sized-more q e =
-      and-false (eqb (q .op) 37) (not (anyOf (names (q .number)) rs)) (not (anyOf (names (q .number)) (rs ++ one r)))
-      (λ d. ap not (anyOf-one (names (q .number)) rs r) ∙ or-true-not (anyOf (names (q .number)) rs) (names (q .number) r) d)
-      e
+      ap (λ (n : Bool). eqb (q .op) opBarrier && not n) (anyOf-one (names (q .number)) rs r)
+      ∙ go (eqb (q .op) opBarrier) (anyOf (names (q .number)) rs) (names (q .number) r) e
+    where
+      go : (a n t : Bool) → a && not n ≡ false → a && not (n || t) ≡ false
+      go false n t e = refl
+      go true true t e = refl
+      go true false t e = absurd (true≢false e)
 
-  fit-more : (isStep r ≡ true → Fits (rs ++ one r) (length rs) r) → Fit rs → Fit (rs ++ one r)
+  fit-more : (isStep r ≡ true → StepFits (rs ++ one r) (length rs) r) → Fit rs → Fit (rs ++ one r)
   fit-more new old i h e = elim (decLt i (length rs)) [
     | yes l ↦
         let same = List·getD-append rs (one r) blank i l in
         let f = old i l (subst (λ (q : Record). isStep q ≡ true) same e) in
-        subst⁻¹ (λ (q : Record). Fits (rs ++ one r) i q) same
+        subst⁻¹ (λ (q : Record). StepFits (rs ++ one r) i q) same
         (record {
           inside = f .inside;
           sized = sized-more (getD rs i blank) (f .sized);
@@ -195,11 +193,11 @@ module _ (rs : List Record) (r : Record) where
     | no l ↦
         let at : length rs ≡ i = let n = length-one in omega arith in
         let same = getD-at rs r [] blank i at in
-        subst⁻¹ (λ (q : Record). Fits (rs ++ one r) i q) same
-        (subst (λ (j : ℕ). Fits (rs ++ one r) j r) at (new (subst (λ (q : Record). isStep q ≡ true) same e)))
+        subst⁻¹ (λ (q : Record). StepFits (rs ++ one r) i q) same
+        (subst (λ (j : ℕ). StepFits (rs ++ one r) j r) at (new (subst (λ (q : Record). isStep q ≡ true) same e)))
   ]
 
-  fits-new : StepTaken rs r → Fits (rs ++ one r) (length rs) r
+  fits-new : StepTaken rs r → StepFits (rs ++ one r) (length rs) r
   fits-new t =
       record {
         inside = t .inside;
@@ -207,18 +205,17 @@ module _ (rs : List Record) (r : Record) where
         ends = let f = first-step t (suc (r .worker)) in let u = first-unopened rs (suc (r .worker)) (t .level) in omega arith;
       }
 
-  sized-other : (b : ℕ) → names b r ≡ false → Sized rs b → Sized (rs ++ one r) b
+  sized-other : (b : ℕ) → names b r ≡ false → BarrierSized rs b → BarrierSized (rs ++ one r) b
   sized-other b n old =
       let same = sizeIn-other rs r b n in
       record {
         found =
             anyOf-one (names b) rs r
-            ∙ (ap (λ (t : Bool). anyOf (names b) rs || t) n
-            ∙ (or-false (anyOf (names b) rs) ∙ (old .found ∙ ap (λ (k : ℕ). not (eqb k 0)) (sym same))));
+            ∙ (or-fails (anyOf (names b) rs) n ∙ (old .found ∙ ap (λ (k : ℕ). not (eqb k 0)) (sym same)));
         most = let h = old .most in omega arith;
       }
 
-  sized-new : (b : ℕ) → BarrierTaken rs r → names b r ≡ true → Sized (rs ++ one r) b
+  sized-new : (b : ℕ) → BarrierTaken rs r → names b r ≡ true → BarrierSized (rs ++ one r) b
   sized-new b t n =
       let own = eqb-true (r .register) b (and-right (isBarrier r) (eqb (r .register) b) n) in
       let new = names-new rs b (let a = t .ascends in omega arith) in

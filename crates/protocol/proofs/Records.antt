@@ -70,12 +70,12 @@ reaches-max true k m p =
     (λ e. ap (λ (b : Bool). b || ltb k p) e ∙ ltb-same k p k (max (suc m) p) (λ h. omega arith) (λ h. let l = leb-false k m e in omega arith))
 
 -- whether a picked record has a number of at least k
-pub reaches : (t : Record → Bool) (f : Record → ℕ) (k : ℕ) (rs : List Record)
+pub any-reaches : (t : Record → Bool) (f : Record → ℕ) (k : ℕ) (rs : List Record)
     → anyOf (λ q. t q && leb k (f q)) rs ≡ ltb k (topIn t f rs)
 unfolding anyOf topIn
-reaches t f k [] = sym (le-ltb k 0 (omega arith))
-reaches t f k (r ∷ rs) =
-    ap (λ (b : Bool). t r && leb k (f r) || b) (reaches t f k rs) ∙ reaches-max (t r) k (f r) (topIn t f rs)
+any-reaches t f k [] = sym (le-ltb k 0 (omega arith))
+any-reaches t f k (r ∷ rs) =
+    ap (λ (b : Bool). t r && leb k (f r) || b) (any-reaches t f k rs) ∙ reaches-max (t r) k (f r) (topIn t f rs)
 
 -- whether any record is picked
 pub picks : (t : Record → Bool) (f : Record → ℕ) (rs : List Record) → anyOf t rs ≡ ltb 0 (topIn t f rs)
@@ -116,7 +116,7 @@ names-new rs b h =
     (λ q e.
     ap (λ (t : Bool). t && leb b (q .register)) (and-left (isBarrier q) (eqb (q .register) b) e)
     ∙ le-leb b (q .register) (let s = eqb-true (q .register) b (and-right (isBarrier q) (eqb (q .register) b) e) in omega arith))
-    (reaches isBarrier (λ q. q .register) b rs ∙ le-ltb b (lowIn rs) h)
+    (any-reaches isBarrier (λ q. q .register) b rs ∙ le-ltb b (lowIn rs) h)
 
 -- The steps.
 pub stepsIn-append : (rs qs : List Record) (w : ℕ) → stepsIn (rs ++ qs) w ≡ stepsIn rs w ++ stepsIn qs w
@@ -175,10 +175,10 @@ first-next (q ∷ rs) r w e =
 
 -- no step of worker w or a later one yet
 pub first-unopened : (rs : List Record) (w : ℕ) → openedIn rs ≤ w → firstIn rs w ≡ length rs
-first-unopened rs w h = first-none rs w (reaches isStep (λ r. r .worker) w rs ∙ le-ltb w (openedIn rs) h)
+first-unopened rs w h = first-none rs w (any-reaches isStep (λ r. r .worker) w rs ∙ le-ltb w (openedIn rs) h)
 
 pub first-opened : (rs : List Record) (w : ℕ) → w < openedIn rs → firstIn rs w < length rs
-first-opened rs w h = first-some rs w (reaches isStep (λ r. r .worker) w rs ∙ lt-ltb w (openedIn rs) h)
+first-opened rs w h = first-some rs w (any-reaches isStep (λ r. r .worker) w rs ∙ lt-ltb w (openedIn rs) h)
 
 pub first-inside : (rs : List Record) (w : ℕ) → firstIn rs w ≤ length rs
 unfolding firstIn
@@ -194,7 +194,7 @@ pub first-one-opened : (rs : List Record) (r : Record) (w : ℕ) → w < openedI
 first-one-opened rs r w h = first-kept rs r w (first-opened rs w h)
 
 pub first-one-unopened : (rs : List Record) (r : Record) (w : ℕ) → openedIn rs ≤ w → firstIn (rs ++ one r) w ≡ length rs + cond (from w r) 0 1
-first-one-unopened rs r w h = first-next rs r w (reaches isStep (λ r. r .worker) w rs ∙ le-ltb w (openedIn rs) h)
+first-one-unopened rs r w h = first-next rs r w (any-reaches isStep (λ r. r .worker) w rs ∙ le-ltb w (openedIn rs) h)
 
 pub first-grows : (rs : List Record) (r : Record) (w : ℕ) → firstIn rs w ≤ firstIn (rs ++ one r) w
 first-grows rs r w = elim (decLt w (openedIn rs)) [

@@ -1,4 +1,6 @@
 -- The paper's table of steps: of every row, what its step is. One law over the rows.
+-- Ops stand outside the table in `Format.isSkip`, in `Rounds.opOf`, in `ownOf` of crate worker and in `syncOf` of crate rules: `step-op` ties
+-- `opOf` to the table, `step-skip` ties `isSkip`; `step-of-own` (moves/proofs/Owned) and `step-of-sync` (engine/proofs/Stepping) the other two.
 use Prim.Native.Nat.{ℕ}
 use mathlib.Core.Bool.{Bool, true, false, cond, false≢true}
 use mathlib.Core.Path.{_≡_, refl, ap, _∙_}
@@ -6,6 +8,7 @@ use mathlib.Core.List.{List, [], _∷_}
 use mathlib.Core.Option.{Option, none, some}
 use lib.Dec.{eqb}
 use borrow.Author.Tests.{eqb-true}
+use Rattle.protocol.specs.Ops.{opSet, opLoad, opStore, opAdd, opSubtract, opSkipZero, opSkipNonzero}
 use Rattle.protocol.specs.Format.{Record, Own, assign, load, store, add, subtract, skipZero, skipNonzero, Step, own, sync, exit, Row, table, rowIn, rowOf, known, isStep, isSkip, stepOf}
 use Rattle.protocol.specs.Rounds.{opOf}
 
@@ -30,13 +33,13 @@ find P (x ∷ xs) every o = go (find P xs (every .1) o) (eqb (x .op) o) refl
 
 -- The number of a step's op, and how far a step skips: 0 if it is no skip.
 abbrev pub ownOp : Own → ℕ
-ownOp (assign r k) = 16
-ownOp (load r a) = 17
-ownOp (store r a) = 18
-ownOp (add r q) = 19
-ownOp (subtract r q) = 20
-ownOp (skipZero r k) = 21
-ownOp (skipNonzero r k) = 22
+ownOp (assign r k) = opSet
+ownOp (load r a) = opLoad
+ownOp (store r a) = opStore
+ownOp (add r q) = opAdd
+ownOp (subtract r q) = opSubtract
+ownOp (skipZero r k) = opSkipZero
+ownOp (skipNonzero r k) = opSkipNonzero
 
 abbrev pub stepOp : Step → ℕ
 stepOp (own o) = ownOp o

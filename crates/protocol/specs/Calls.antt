@@ -1,7 +1,7 @@
 -- Document 01, "Calls and buffers": what the two host calls return, and what a run leaves in the buffers lent to it.
 use Prim.Native.Nat.{ℕ, _-_}
-use mathlib.Core.Bool.{Bool, false, not, _||_}
-use mathlib.Core.List.{List, [], _∷_, _++_}
+use mathlib.Core.Bool.{Bool, not, _||_}
+use mathlib.Core.List.{List, _++_}
 use lib.Dec.{leb, ltb, eqb}
 use lib.ListN.{length, replicate}
 use Rattle.protocol.specs.Format.{Plan, planOf}

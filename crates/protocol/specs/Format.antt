@@ -41,6 +41,9 @@ stepsLimit = 128
 abbrev pub fileLimit : ℕ
 fileLimit = 7231
 
+abbrev pub recordsLimit : ℕ
+recordsLimit = fileLimit / recordLength
+
 pub record Record : Type 0 where
   pub mark : ℕ
   pub worker : ℕ

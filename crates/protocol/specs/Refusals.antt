@@ -6,7 +6,8 @@ use mathlib.Core.Option.{Option, none, some}
 use lib.Dec.{leb, ltb, eqb}
 use lib.ListN.{length}
 use Rattle.protocol.specs.Ops.{opPlanRecord, opBarrier}
-use Rattle.protocol.specs.Format.{Record, Row, records, recordLength, fileLimit, planMark, rowOf, known, isBarrier, isStep, isSkip, workersIn, stepsIn, workersLimit, barrierCount, sizeLimit, stepsLimit}
+use Rattle.protocol.specs.Format.{Record, Row, records, recordLength, fileLimit, planMark, rowOf, known, isBarrier, isStep, isSkip, workersIn, stepsIn, workersLimit, barrierCount}
+use Rattle.protocol.specs.Format.{sizeLimit, stepsLimit}
 
 pub data Refusal : Type 0 where
   badLength badMark badPlan badBarrier badWorker badOp badOperand tooManySteps noSize skipTooFar : Refusal
@@ -93,19 +94,25 @@ unfoldable pub operandsOutside : Option Row → ℕ → ℕ → Bool
 operandsOutside none register number = true
 operandsOutside (some x) register number = ltb (x .registers) register || outside (x .least) (x .most) number
 
+abbrev pub wrongOperand : Record → Bool
+wrongOperand r = operandsOutside (rowOf (r .op)) (r .register) (r .number)
+
+-- "5 step's worker not below n, or falling"
+abbrev pub wrongWorker : List Record → Record → Bool
+wrongWorker before r = leb (workersIn before) (r .worker) || anyOf (λ q. isStep q && ltb (r .worker) (q .worker)) before
+
+-- "9 barrier without a size"
+abbrev pub lacksSize : List Record → Record → Bool
+lacksSize before r = eqb (r .op) opBarrier && not (anyOf (λ q. isBarrier q && eqb (q .register) (r .number)) before)
+
 -- "6 unknown op; 5 step's worker not below n, or falling; 8 a worker's 129th step; 7 operand out of range; 9 barrier without a size"
 unfoldable pub stepRule : List Record → Record → Rule
 stepRule before r =
     refuseIf (not (known (r .op))) badOp
-    (refuseIf
-    (leb (workersIn before) (r .worker) || anyOf (λ q. isStep q && ltb (r .worker) (q .worker)) before)
-    badWorker
+    (refuseIf (wrongWorker before r) badWorker
     (refuseIf (leb stepsLimit (length (stepsIn before (r .worker)))) tooManySteps
-    (refuseIf (operandsOutside (rowOf (r .op)) (r .register) (r .number)) badOperand
-    (refuseIf
-    (eqb (r .op) opBarrier && not (anyOf (λ q. isBarrier q && eqb (q .register) (r .number)) before))
-    noSize
-    holds))))
+    (refuseIf (wrongOperand r) badOperand
+    (refuseIf (lacksSize before r) noSize holds))))
 
 -- "3 .. or op 0 later"
 unfoldable pub laterRule : List Record → Record → Rule

@@ -8,7 +8,8 @@ use mathlib.Core.List.{List}
 use mathlib.Core.Option.{some}
 use lib.ListN.{length, getD, take, drop}
 use Rattle.protocol.specs.Ops.{opPlanRecord, opBarrierRecord, opBarrier}
-use Rattle.protocol.specs.Format.{Record, Row, recordLength, fileLimit, planMark, recordCount, records, planOf, rowOf, isBarrier, isStep, isSkip, workersIn, stepsIn, workersLimit, barrierCount, sizeLimit, stepsLimit}
+use Rattle.protocol.specs.Format.{Record, Row, recordLength, fileLimit, planMark, recordCount, records, planOf, rowOf, isBarrier, isStep, isSkip, workersIn, stepsIn, workersLimit}
+use Rattle.protocol.specs.Format.{barrierCount, sizeLimit, stepsLimit}
 use Rattle.protocol.specs.Turns.{workersOf}
 use Rattle.protocol.specs.Calls.{Buffers, memoryLength, logLength, reportLength, workLength, turnsLimit}
 

@@ -1,7 +1,9 @@
+-- `plan::answer::code` meets its contract: an index is that of a record, so the sum fits.
 use borrow.Author.Needs.{needs}
 use Prim.Native.Nat.{_≤_}
 use mathlib.Core.Path.{ap}
 use native.Mathlib.Omega.{arith}
+use Rattle.protocol.specs.Format.{recordsLimit}
 use Rattle.protocol.specs.Refusals.{codeOf}
 use Rattle.protocol.proofs.Numbered.{numbered}
 use Rattle.plan.specs.Answer.{refusalOf, verdictOf}
@@ -9,7 +11,7 @@ use Rattle.plan.specs.declared.answer.Verdict.{Verdict}
 use Rattle.plan.proofs.answer.code.Statement.{statement}
 use Rattle.plan.proofs.answer.code.Tie as tie
 
-index : (c : tie.After-number) → c .before .before .v .given .0 .1 .0 ≤ 1033
+index : (c : tie.After-number) → c .before .before .v .given .0 .1 .0 ≤ recordsLimit
 index c = c .before .before .before .before .pre _ _ (ap verdictOf (c .before .before .v .given .1))
 
 enum-told : tie.Need-enum-told

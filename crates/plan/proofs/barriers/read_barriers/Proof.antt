@@ -10,7 +10,7 @@ use Rattle.protocol.specs.Refusals.{badBarrier, refuseIf, holds, ruled}
 use Rattle.plan.specs.Answer.{decodedOf}
 use Rattle.plan.specs.Reading.{fileRecord, verdictFrom}
 use Rattle.plan.specs.declared.decode.Decoded.the-variants.{Read}
-use Rattle.plan.proofs.Readings.{Body, BarriersAt, verdict-step, unmarked-rule, barrier-rule, barrier-more, named, barriers-first, not-refused, no-barrier}
+use Rattle.plan.proofs.Readings.{Body, BarriersAt, verdict-step, unmarked-rule, barrier-rule, barrier-more, named, barriers-first, not-refused, no-barrier-record}
 use Rattle.plan.proofs.barriers.read_barriers.Statement.{statement}
 use Rattle.plan.proofs.barriers.read_barriers.Tie as tie
 
@@ -156,7 +156,7 @@ returns-4 c =
       most = inv .1;
       verdict = inv .3;
       barriers = inv .2 .soFar;
-      noBarrier = λ q h. no-barrier (fileRecord (file r) (i r)) (decoded r) (c .if1 .taken);
+      noBarrier = λ q h. no-barrier-record (fileRecord (file r) (i r)) (decoded r) (c .if1 .taken);
     }
 
 pub read-barriers-spec : {M : Type 1} → statement M

@@ -1,3 +1,4 @@
+-- `plan::check::bad_length` meets its contract: each test in its turn.
 use borrow.Author.Tests.{eq-eqb, ne-eqb}
 use Rattle.plan.proofs.check.bad_length.Statement.{statement}
 use Rattle.plan.proofs.check.bad_length.Tie as tie

@@ -1,17 +1,17 @@
 -- `plan::check::check` meets its contract: the rules in the paper's order, each part of the file by the function that reads it.
 use borrow.Author.Needs.{needs}
-use Prim.Native.Nat.{ℕ, _/_, _≤_, _<_}
+use Prim.Native.Nat.{ℕ, _/_, _≤_}
 use native.Mathlib.Omega.{arith}
 use mathlib.Core.Bool.{Bool, false}
 use mathlib.Core.Path.{_≡_, refl, ap, _∙_, sym}
 use mathlib.Core.List.{List}
 use lib.ListN.{length}
-use Rattle.protocol.specs.Format.{recordLength, recordCount}
+use Rattle.protocol.specs.Format.{recordLength, recordsLimit, recordCount}
 use Rattle.protocol.specs.Refusals as protocol
 use Rattle.protocol.specs.Refusals.{wrongLength, refuseIf, holds, ruled}
 use Rattle.protocol.specs.Calls.{both}
 use Rattle.protocol.specs.WellFormed.{PlanRecord}
-use Rattle.protocol.proofs.Accepted.{Length, length-right}
+use Rattle.protocol.proofs.Accepted.{length-right}
 use Rattle.protocol.proofs.Taken.{plan-record}
 use Rattle.plan.specs.Answer.{recordOf, decodedOf, verdictOf}
 use Rattle.plan.specs.Reading.{fileRecord, before, verdictFrom}
@@ -46,7 +46,7 @@ module _ (c : tie.Else1) where
   unfolding recordCount
   some = length-right file fine .some
 
-  few : count ≤ 1033
+  few : count ≤ recordsLimit
   unfolding recordCount
   few = length-right file fine .most
 
@@ -179,7 +179,7 @@ check-skips-requires c κs =
     let e = c .before in
     let s = sizedAt (planned (e .before .before .before .before .before .before)) in
     let all = e .before .before .read-steps .ensures .read (ap verdictOf (e .enum-told3 .given .1)) in
-    (omega arith, (omega (arith, few s), skip-checking all (some s)))
+    (omega arith, (few s, skip-checking all (some s)))
 
 returns-6 : tie.Need-returns-6
 returns-6 c =

@@ -1,3 +1,4 @@
+-- `plan::decode::body` meets its contract: each byte is the definition's.
 use borrow.Author.Needs.{needs}
 use Rattle.protocol.specs.Format.{recordFrom}
 use Rattle.plan.proofs.decode.body.Statement.{statement}

@@ -1,7 +1,8 @@
+-- `plan::decode::decode` meets its contract: by the mark.
 use borrow.Author.Needs.{needs}
 use mathlib.Core.Path.{_∙_, sym}
 use Rattle.protocol.specs.Format.{recordFrom}
-use Rattle.plan.proofs.Decoding.{marked, unmarked}
+use Rattle.plan.proofs.Decoding.{marked-decoded, unmarked-decoded}
 use Rattle.plan.proofs.decode.decode.Statement.{statement}
 use Rattle.plan.proofs.decode.decode.Tie as tie
 
@@ -21,7 +22,7 @@ returns : tie.Need-returns
 unfolding recordFrom
 returns c =
     let a = c .before .before .before .before .before .args in
-    unmarked (recordFrom (a .file .now) (a .at)) (λ q. c .if1 .taken (c .before .pair .ensures ∙ q))
+    unmarked-decoded (recordFrom (a .file .now) (a .at)) (λ q. c .if1 .taken (c .before .pair .ensures ∙ q))
 
 body-requires : tie.Need-body-requires
 body-requires c κs = search needs
@@ -31,7 +32,7 @@ unfolding recordFrom
 returns-2 c =
     let a = c .before .before .before .before .before .before .args in
     rw (c .body .ensures)
-    (marked (recordFrom (a .file .now) (a .at)) (sym (c .before .before .pair .ensures) ∙ c .before .if1 .left))
+    (marked-decoded (recordFrom (a .file .now) (a .at)) (sym (c .before .before .pair .ensures) ∙ c .before .if1 .left))
 
 pub decode-spec : {M : Type 1} → statement M
 decode-spec =

@@ -1,9 +1,10 @@
+-- `plan::skips::check_skips` meets its contract: what is left of the test is the same at each record.
 use native.Mathlib.Omega.{arith}
 use borrow.Author.Needs.{needs}
 use Prim.Native.Nat.{ℕ, _-_, _<_, _≤_}
 use mathlib.Core.Bool.{true, false}
 use mathlib.Core.Path.{_≡_, ap, _∙_, sym, subst⁻¹}
-use Rattle.protocol.specs.Format.{recordsFrom, isSkip}
+use Rattle.protocol.specs.Format.{recordsFrom, isSkip, workersLimit}
 use Rattle.protocol.specs.Refusals.{checkSkips}
 use Rattle.plan.specs.Reading.{before}
 use Rattle.plan.specs.Skipping.{tooFar}
@@ -41,7 +42,10 @@ too-far-requires c κs =
     let pre = c .before .before .before .before .pre in
     let i = c .before .before .loop .i in
     let inv = c .before .before .loop .inv in (
-      λ e. subst⁻¹ (λ (r : Body). r .worker < 8) (c .body .ensures) (worker-below (a .file .now) (a .count) (a .firsts .now) (pre .1 .1) i (c .before .loop-test .taken) (ap (λ (r : Body). isSkip (r .op)) (sym (c .body .ensures)) ∙ e)),
+      λ e.
+          let same = c .body .ensures in
+          subst⁻¹ (λ (r : Body). r .worker < workersLimit) same
+          (worker-below (a .file .now) (a .count) (a .firsts .now) (pre .1 .1) i (c .before .loop-test .taken) (ap (λ (r : Body). isSkip (r .op)) (sym same) ∙ e)),
       omega arith,
     )
 

@@ -1,3 +1,4 @@
+-- `plan::skips::is_skip` meets its contract: each op in its turn.
 use borrow.Author.Tests.{eq-eqb, ne-eqb}
 use Rattle.plan.proofs.skips.is_skip.Statement.{statement}
 use Rattle.plan.proofs.skips.is_skip.Tie as tie

@@ -1,6 +1,6 @@
+-- `plan::skips::too_far` meets its contract: a skip's worker is one of the eight, so the next one's first step is known.
 use borrow.Author.Needs.{needs}
 use borrow.Author.Tests.{not-true, not-false}
-use Prim.Native.Nat.{_<_}
 use mathlib.Core.Path.{_∙_, sym}
 use native.Mathlib.Omega.{arith}
 use Rattle.plan.proofs.skips.too_far.Statement.{statement}
@@ -22,7 +22,9 @@ mul-result : tie.Need-mul-result
 mul-result c = search needs
 
 element-copy-out-result : tie.Need-element-copy-out-result
-element-copy-out-result c = let h : c .before .before .before .args .r .worker < 8 = c .before .before .before .pre .0 (sym (c .before .before .is-skip .ensures) ∙ not-false _ (c .before .if1 .left)) in omega arith
+element-copy-out-result c =
+    let s = c .before .before .before in
+    omega (arith, s .pre .0 (sym (c .before .before .is-skip .ensures) ∙ not-false _ (c .before .if1 .left)))
 
 add-result : tie.Need-add-result
 add-result c = search needs

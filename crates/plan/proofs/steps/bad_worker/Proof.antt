@@ -1,3 +1,4 @@
+-- `plan::steps::bad_worker` meets its contract: the last opened worker is neither too high nor falling.
 use borrow.Author.Needs.{needs}
 use borrow.Author.Tests.{lt-ltb, le-ltb, le-leb, lt-leb}
 use native.Mathlib.Omega.{arith}

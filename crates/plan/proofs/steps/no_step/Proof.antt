@@ -1,3 +1,4 @@
+-- `plan::steps::no_step` meets its contract: each op in its turn.
 use borrow.Author.Tests.{eq-eqb, ne-eqb}
 use Rattle.plan.proofs.steps.no_step.Statement.{statement}
 use Rattle.plan.proofs.steps.no_step.Tie as tie

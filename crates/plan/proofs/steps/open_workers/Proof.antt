@@ -1,3 +1,4 @@
+-- `plan::steps::open_workers` meets its contract: the workers so far begin at the record, the others where they did.
 use native.Mathlib.Omega.{arith}
 use borrow.Author.Needs.{needs}
 use Prim.Native.Nat.{ℕ, _+_, _-_, max, _≤_}

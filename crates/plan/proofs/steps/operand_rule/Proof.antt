@@ -7,7 +7,7 @@ use mathlib.Core.Path.{_≡_, _∙_, sym}
 use Rattle.protocol.specs.Format.{rowOf}
 use Rattle.protocol.specs.Refusals.{operandsOutside}
 use Rattle.plan.specs.declared.decode.Record.{Record}
-use Rattle.plan.proofs.Limited.{within, barrier-number}
+use Rattle.plan.proofs.Limited.{outside-row, barrier-number}
 use Rattle.plan.proofs.steps.operand_rule.Statement.{statement}
 use Rattle.plan.proofs.steps.operand_rule.Tie as tie
 
@@ -15,7 +15,7 @@ outside-requires : tie.Need-outside-requires
 outside-requires c κs = search needs
 
 returns : tie.Need-returns
-returns c = simp (within _ _ (c .before .before .pre), ← c .before .outside .ensures, c .if1 .taken)
+returns c = simp (outside-row _ _ (c .before .before .pre), ← c .before .outside .ensures, c .if1 .taken)
 
 -- operands that are in the row's ranges
 module _ (c : tie.Else1) where
@@ -23,7 +23,7 @@ module _ (c : tie.Else1) where
   step = c .before .before .args .r
 
   inside : operandsOutside (rowOf (step .op)) (step .register) (step .number) ≡ false
-  inside = within _ _ (c .before .before .pre) _ _ ∙ sym (c .before .outside .ensures) ∙ c .if1 .left
+  inside = outside-row _ _ (c .before .before .pre) _ _ ∙ sym (c .before .outside .ensures) ∙ c .if1 .left
 
 cast-at : tie.Need-cast-at
 cast-at c = search needs

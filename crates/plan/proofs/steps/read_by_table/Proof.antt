@@ -7,16 +7,16 @@ use mathlib.Core.Bool.{false}
 use mathlib.Core.List.{List}
 use mathlib.Core.Option.{some}
 use lib.ListN.{getD}
-use Rattle.protocol.specs.Format.{isBarrier, table, workersLimit}
+use Rattle.protocol.specs.Format.{isBarrier, workersLimit}
 use Rattle.protocol.specs.Refusals as protocol
-use Rattle.format.specs.Table.{limits, placeIn}
+use Rattle.format.specs.Table.{limits}
 use Rattle.format.specs.declared.table.Row.{Row}
 use Rattle.format.proofs.Rows.{place-inside, no-row, row-at}
 use Rattle.plan.specs.Answer.{ruleAs}
 use Rattle.plan.specs.Reading.{fileRecord, verdictFrom}
 use Rattle.plan.specs.Stepping.{keptRule}
 use Rattle.plan.proofs.Readings.{Body, verdict-step, unmarked-rule, not-refused}
-use Rattle.plan.proofs.Stepped.{Kept, OneStep, kept-first, inside, same-rule, no-step-rule, worker-below, step-more, all-read, records-read}
+use Rattle.plan.proofs.Stepped.{Kept, OneStep, kept-first, begun-before, same-rule, no-step-rule, worker-below, step-more, read-through, records-read}
 use Rattle.plan.proofs.steps.read_by_table.Statement.{statement}
 use Rattle.plan.proofs.steps.read_by_table.Tie as tie
 
@@ -90,14 +90,15 @@ module _ (c : tie.After-place Inv-loop μ-loop) where
         decoded = sym (read .before .before .decode .ensures) ∙ read .r .given .1;
       }
 
-  goes-on : {x : protocol.Rule}
-      → keptRule (start .args .n) (at .loop .opened) (start .args .sizes .now) (at .loop .firsts) (at .loop .i) body ≡ x
+  abbrev rule : protocol.Rule
+  rule = keptRule (start .args .n) (at .loop .opened) (start .args .sizes .now) (at .loop .firsts) (at .loop .i) body
+
+  goes-on : {x : protocol.Rule} → rule ≡ x
       → protocol.ruled x (at .loop .i) (verdictFrom (start .args .file .now) (start .args .count) (at .loop .i + 1))
       ≡ verdictFrom (start .args .file .now) (start .args .count) (start .args .start)
   goes-on e = sym (verdict-step _ _ _ (in-loop .loop-test .taken) (same-rule one-step ∙ e)) ∙ at .loop .inv .4
 
-  fits : keptRule (start .args .n) (at .loop .opened) (start .args .sizes .now) (at .loop .firsts) (at .loop .i) body ≡ protocol.holds
-      → body .worker < workersLimit
+  fits : rule ≡ protocol.holds → body .worker < workersLimit
   fits e = omega (arith, worker-below one-step e, at .loop .inv .3 .few)
 
 returns-2 : tie.Need-returns-2 Inv-loop μ-loop
@@ -149,7 +150,7 @@ step-rule-requires c κs =
     row-at (body p .op) d (let h = has-row e in omega arith)
     ∙ (ap (λ (k : ℕ). some (getD limits k d)) (sym same) ∙ ap (λ (rows : List Row). some (getD rows k d)) (sym (start p .pre .0))) in
     let inv = at p .loop .inv in
-    (row, (inv .3 .few, (inv .1, inside (inv .3))))
+    (row, (inv .3 .few, (inv .1, begun-before (inv .3))))
 
 -- the place of the rule's record
 abbrev placed : tie.After-step-rule Inv-loop μ-loop → tie.After-place Inv-loop μ-loop
@@ -175,7 +176,7 @@ module _ (c : tie.After-enum-told2 Inv-loop μ-loop) where
   abbrev step : tie.After-place Inv-loop μ-loop
   step = placed (c .before .before)
 
-  passed : keptRule (start step .args .n) (at step .loop .opened) (start step .args .sizes .now) (at step .loop .firsts) (at step .loop .i) (body step) ≡ protocol.holds
+  passed : rule step ≡ protocol.holds
   passed = sym (c .before .before .step-rule .ensures) ∙ ap ruleAs (c .enum-told2 .given .1)
 
 cast-worker : tie.Need-cast-worker Inv-loop μ-loop
@@ -214,7 +215,7 @@ returns-4 c =
     let a = l .before .before .before .args in
     let all : l .before .loop .i ≡ a .count = let h = inv .0 in let m = l .loop-test .left in omega arith in
     record {
-      verdict = sym (all-read (a .file .now) (a .count)) ∙ (ap (λ (j : ℕ). verdictFrom (a .file .now) (a .count) j) (sym all) ∙ inv .4);
+      verdict = sym (read-through (a .file .now) (a .count)) ∙ (ap (λ (j : ℕ). verdictFrom (a .file .now) (a .count) j) (sym all) ∙ inv .4);
       size = c .open-workers2 .ensures .size ∙ inv .3 .size;
       read = λ q. records-read (subst (λ (j : ℕ). Kept (a .file .now) j (a .n) (a .sizes .now) (l .before .loop .opened) (l .before .loop .firsts)) all (inv .3)) (c .open-workers2 .ensures);
     }

@@ -3,7 +3,7 @@ use borrow.Author.Needs.{needs}
 use borrow.Author.Tests.{le-leb, lt-leb}
 use native.Mathlib.Omega.{arith}
 use mathlib.Core.Path.{_∙_, sym}
-use Rattle.plan.proofs.Limited.{is-known, no-plan, no-barrier-record}
+use Rattle.plan.proofs.Limited.{is-known, not-plan-record, not-barrier-record}
 use Rattle.plan.proofs.Stepped.{good-worker}
 use Rattle.plan.proofs.steps.step_rule.Statement.{statement}
 use Rattle.plan.proofs.steps.step_rule.Tie as tie
@@ -17,7 +17,7 @@ bad-worker-requires c κs = search needs
 returns : tie.Need-returns
 returns c =
     let row = c .before .before .before .pre .0 in
-    simp (no-plan _ _ row, no-barrier-record _ _ row, is-known _ _ row, ← c .before .bad-worker .ensures, c .if1 .taken)
+    simp (not-plan-record _ _ row, not-barrier-record _ _ row, is-known _ _ row, ← c .before .bad-worker .ensures, c .if1 .taken)
 
 steps-read-requires : tie.Need-steps-read-requires
 steps-read-requires c κs =
@@ -29,8 +29,8 @@ returns-2 : tie.Need-returns-2
 returns-2 c =
     let row = c .before .before .before .before .before .pre .0 in
     simp (
-      no-plan _ _ row,
-      no-barrier-record _ _ row,
+      not-plan-record _ _ row,
+      not-barrier-record _ _ row,
       is-known _ _ row,
       ← c .before .before .before .bad-worker .ensures,
       c .before .before .if1 .left,
@@ -45,8 +45,8 @@ returns-3 : tie.Need-returns-3
 returns-3 c =
     let row = c .before .before .before .before .before .before .pre .0 in
     simp (
-      no-plan _ _ row,
-      no-barrier-record _ _ row,
+      not-plan-record _ _ row,
+      not-barrier-record _ _ row,
       is-known _ _ row,
       ← c .before .before .before .before .bad-worker .ensures,
       c .before .before .before .if1 .left,
