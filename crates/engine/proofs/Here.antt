@@ -3,10 +3,9 @@ use Prim.Native.Nat.{ℕ, suc, _+_, _*_, _<_, _≤_}
 use native.Mathlib.Numerals.{add-one}
 use native.Mathlib.Omega.{arith}
 use mathlib.Core.Bool.{true}
-use mathlib.Core.Path.{_≡_, refl, sym, ap, _∙_, subst⁻¹}
+use mathlib.Core.Path.{_≡_, sym, ap, _∙_, subst⁻¹}
 use mathlib.Core.List.{List, [], _∷_}
 use lib.ListN.{length, getD, length-append}
-use borrow.Author.Tests.{eq-eqb}
 use Rattle.protocol.specs.Ops.{opLock, opExit}
 use Rattle.protocol.specs.Format.{recordLength, workersLimit, barrierCount, stepsLimit, Plan, Step, own, sync, Sync, records, firstIn, planOf}
 use Rattle.protocol.specs.Steps as steps
@@ -20,9 +19,11 @@ use Rattle.protocol.proofs.Counting.{clash, member-some}
 use Rattle.protocol.proofs.Fence.{can-view, in-list}
 use Rattle.protocol.proofs.OwnMoves.{Listed, listed}
 use Rattle.protocol.proofs.Laws.{start-inv}
-use Rattle.protocol.proofs.Bounds.{play-inv, bounded, records-bound, log-bound}
+use Rattle.protocol.proofs.Obeys.{play-inv}
+use Rattle.protocol.proofs.Bounds.{bounded, records-bound, log-bound}
 use Rattle.plan.specs.declared.decode.Record.{Record}
-use Rattle.queue.specs.List.{listOf, Below}
+use Rattle.queue.specs.List.{listOf}
+use Rattle.queue.proofs.Laws.{below-first}
 use Rattle.worker.specs.Private.{ownOf}
 use Rattle.rules.specs.Codes.{syncOf}
 use Rattle.rules.proofs.Codes.{step-sync}
@@ -39,12 +40,6 @@ step-of-sync : (r : Record) → opLock ≤ r .op → r .op ≤ opExit → stepOf
 unfolding stepOfBody
 step-of-sync r least most =
     step-sync (record { mark = 0; worker = r .worker; op = r .op; register = r .register; number = r .number }) least most
-
--- the first of workers below a number
-first : {n : ℕ} (ws : List ℕ) → 0 < length ws → Below n ws → getD ws 0 0 < n
-unfolding member
-first [] l b = absurd (omega arith)
-first (u ∷ us) l b = b u (rw (eq-eqb u u refl))
 
 member-some-length : (w : ℕ) (ws : List ℕ) → member w ws ≡ true → 0 < length ws
 unfolding member
@@ -97,7 +92,7 @@ module _ {file sizes firsts : List ℕ} {w : ℕ} {t : Schedule} {k : Kept} (a :
   list-some = rw (a .refines .lists .list .list) (member-some-length w (s .list) in-round)
 
   pub first-small : getD (listOf (t .lists .list)) 0 0 < workersLimit
-  first-small = first (listOf (t .lists .list)) list-some (facts.list-below sound inv (a .refines))
+  first-small = below-first workersLimit (listOf (t .lists .list)) list-some (facts.list-below sound inv (a .refines))
 
   pub holds-token : t .away ≡ 0 → Holder s w
   holds-token near = holder s w (a .able) (sym (a .refines .lists .away) ∙ near)

@@ -1,16 +1,17 @@
 -- The turns of a run: those up to one that synchronises, that one, and so on.
-use Prim.Native.Nat.{ℕ, zero, suc, _+_, _≤_, _<_}
+use Prim.Native.Nat.{ℕ, _+_, _≤_, _<_}
 use native.Mathlib.Omega.{arith}
-use mathlib.Core.Bool.{Bool, true, false, cond}
+use mathlib.Core.Bool.{Bool, true, false}
 use mathlib.Core.Path.{_≡_, refl, sym, ap, _∙_, subst, subst⁻¹}
-use mathlib.Core.List.{List, [], _∷_}
-use lib.ListN.{length, getD, take, replicate}
+use mathlib.Core.List.{List}
+use lib.ListN.{length, getD, replicate}
 use lib.Seq.{take-all}
-use Rattle.protocol.specs.Format.{workersLimit, Plan, planOf}
+use Rattle.protocol.specs.Format.{workersLimit, planOf}
 use Rattle.protocol.specs.Rounds.{State}
-use Rattle.protocol.specs.Turns.{workersOf, move, turn, play, noneLeft, ended}
+use Rattle.protocol.specs.Turns.{workersOf, turn, play, noneLeft}
 use Rattle.protocol.specs.Calls.{playedFrom}
-use Rattle.protocol.proofs.Laws.{end-stops}
+use Rattle.protocol.proofs.Laws.{start-inv}
+use Rattle.protocol.proofs.Obeys.{rest-passes}
 use Rattle.plan.specs.declared.decode.Record.{Record}
 use Rattle.queue.specs.List.{listOf}
 use Rattle.engine.specs.declared.state.Schedule.{Schedule}
@@ -19,22 +20,8 @@ use Rattle.engine.specs.Kept.{Kept}
 use Rattle.engine.specs.Refines.{Refines}
 use Rattle.engine.specs.Moving.{Syncing, Synced}
 use Rattle.engine.specs.Turning.{Begun, Playing, Turning, Stopped, Turned, movesAs, Over}
-use Rattle.engine.proofs.Playing.{after, able-here, moved}
+use Rattle.engine.proofs.Playing.{after, plan-sound, able-here, moved}
 use Rattle.engine.proofs.StartRefines.{startKept, start-refines}
-
--- after the end every turn passes
-ended-play : (plan : Plan) (s : State) (ts : List ℕ) → ended s ≡ true → play plan s ts ≡ s
-unfolding play turn
-ended-play plan s [] e = refl
-ended-play plan s (w ∷ ws) e =
-    ap (λ (b : Bool). play plan (cond b (move plan s w) s) ws) (end-stops s w e) ∙ ended-play plan s ws e
-
-rest-passes : (plan : Plan) (s : State) (ts : List ℕ) (i : ℕ) → ended (play plan s (take i ts)) ≡ true → play plan s ts ≡ play plan s (take i ts)
-unfolding play
-rest-passes plan s [] zero e = refl
-rest-passes plan s [] (suc i) e = refl
-rest-passes plan s (w ∷ ws) zero e = ended-play plan s (w ∷ ws) e
-rest-passes plan s (w ∷ ws) (suc i) e = rest-passes plan (turn plan s w) ws i e
 
 -- what stands before turn i
 pub record Stands (file turns start : List ℕ) (i : ℕ) (t : Schedule) (k : Kept) : Type 0 where
@@ -99,7 +86,7 @@ module _ {file : List ℕ} {n : ℕ} {sizes firsts turns memory log work : List 
     ends-here none e =
         over
         (subst⁻¹ (λ (q : State). Refines (workersOf (planOf file)) q t k)
-        (rest-passes (planOf file) _ turns i (ap noneLeft (sym (s .refines .lists .list .list)) ∙ sym none ∙ e)) (s .refines))
+        (rest-passes (planOf file) (plan-sound (p .named)) _ turns i (start-inv (planOf file) memory (plan-sound (p .named))) (ap noneLeft (sym (s .refines .lists .list .list)) ∙ sym none ∙ e)) (s .refines))
 
     -- or all turns have been played
     pub all-played : length turns ≤ i → Over file turns memory (record { schedule = t; fates = k .fates }) (k .memory) (k .log) (k .work)

@@ -4,8 +4,8 @@ use native.Mathlib.Numerals.{add-one}
 use native.Mathlib.Decide.{decLt}
 use native.Mathlib.Omega.{arith}
 use mathlib.Core.Bool.{Bool, true, false, cond}
-use mathlib.Core.Path.{_≡_, refl, sym, ap, _∙_, subst⁻¹}
-use mathlib.Core.List.{List, [], _∷_, _++_}
+use mathlib.Core.Path.{_≡_, sym, ap, _∙_, subst⁻¹}
+use mathlib.Core.List.{List, [], _∷_}
 use lib.Dec.{leb}
 use lib.ListN.{length, getD, take}
 use lib.Seq.{take-suc}
@@ -15,7 +15,7 @@ use Rattle.protocol.specs.Rounds.{State, member}
 use Rattle.protocol.specs.Turns.{workersOf, can, move, turn, play}
 use Rattle.protocol.specs.Calls.{namesNobody, playedFrom}
 use Rattle.protocol.proofs.Accepted.{sound-file}
-use Rattle.protocol.proofs.Bounds.{play-inv}
+use Rattle.protocol.proofs.Obeys.{play-inv, play-append}
 use Rattle.protocol.proofs.Counting.{member-some, occurs-above}
 use Rattle.protocol.proofs.Laws.{start-inv}
 use Rattle.protocol.proofs.Sound.{Sound}
@@ -28,18 +28,14 @@ use Rattle.engine.specs.Moving.{Able}
 use Rattle.engine.specs.Turning.{Named}
 use Rattle.engine.proofs.Facts as facts
 
-play-one : (plan : Plan) (s : State) (ts : List ℕ) (w : ℕ) → play plan s (ts ++ (w ∷ [])) ≡ turn plan (play plan s ts) w
-unfolding play
-play-one plan s [] w = refl
-play-one plan s (t ∷ ts) w = play-one plan (turn plan s t) ts w
-
 -- the state after so many of the turns
 abbrev pub after : Plan → List ℕ → List ℕ → ℕ → State
 after plan memory turns i = playedFrom plan memory (take i turns)
 
 after-one : (plan : Plan) (memory turns : List ℕ) (i : ℕ) → i < length turns
     → after plan memory turns (i + 1) ≡ turn plan (after plan memory turns i) (getD turns i 0)
-after-one plan memory turns i h = rw (add-one, take-suc turns i 0) (play-one plan _ (take i turns) (getD turns i 0))
+unfolding play
+after-one plan memory turns i h = rw (add-one, take-suc turns i 0) (play-append plan _ (take i turns) (getD turns i 0 ∷ []))
 
 pub after-move : (plan : Plan) (memory turns : List ℕ) (i : ℕ) → i < length turns → can (after plan memory turns i) (getD turns i 0) ≡ true
     → after plan memory turns (i + 1) ≡ move plan (after plan memory turns i) (getD turns i 0)

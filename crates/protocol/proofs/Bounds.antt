@@ -12,14 +12,15 @@ use borrow.Author.Tests.{eq-eqb, ne-eqb}
 use Rattle.protocol.specs.Format.{Step, Plan}
 use Rattle.protocol.specs.Steps.{Worker, stepsOf}
 use Rattle.protocol.specs.Rounds.{State, workerAt, keep}
-use Rattle.protocol.specs.Turns.{workersOf, start, can, move, turn, play}
+use Rattle.protocol.specs.Turns.{workersOf, start, play}
 use Rattle.protocol.specs.RoundRun.{total, stepCount, moveLimit}
 use Rattle.protocol.specs.Demands.{occurs}
 use Rattle.protocol.proofs.Sound.{Sound}
 use Rattle.protocol.proofs.Invariant.{sumOf, waits, gone, placeOf, Core, Inv}
 use Rattle.protocol.proofs.Counting.{occurs-same, occurs-append, occurs-kept, occurs-dropped, sum-mono}
 use Rattle.protocol.proofs.OwnMoves.{one-fate, waiter-exists}
-use Rattle.protocol.proofs.Laws.{start-inv, kept}
+use Rattle.protocol.proofs.Laws.{start-inv}
+use Rattle.protocol.proofs.Obeys.{play-inv}
 
 -- a sound plan
 
@@ -145,19 +146,6 @@ bounded plan s sound i =
     }
 
 -- every list of turns
-
-pub turn-inv : (plan : Plan) → Sound plan → (s : State) (w : ℕ) → Inv plan s → Inv plan (turn plan s w)
-unfolding turn
-turn-inv plan sound s w i = go (can s w) refl
-  where
-    go : (b : Bool) → can s w ≡ b → Inv plan (cond b (move plan s w) s)
-    go true q = kept plan sound s w i q
-    go false q = i
-
-pub play-inv : (plan : Plan) → Sound plan → (s : State) (turns : List ℕ) → Inv plan s → Inv plan (play plan s turns)
-unfolding play
-play-inv plan sound s [] i = i
-play-inv plan sound s (w ∷ ws) i = play-inv plan sound (turn plan s w) ws (turn-inv plan sound s w i)
 
 pub played-bounded : (plan : Plan) → Sound plan → (memory turns : List ℕ) → Bounded plan (play plan (start plan memory) turns)
 played-bounded plan sound memory turns = bounded plan _ sound (play-inv plan sound (start plan memory) turns (start-inv plan memory sound))

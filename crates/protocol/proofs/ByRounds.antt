@@ -12,29 +12,19 @@ use lib.Seq.{getD-set-same, getD-set-other}
 use borrow.Author.Tests.{eq-eqb, ne-eqb}
 use Rattle.protocol.specs.Format.{Own, Step, own, sync, Sync, Plan}
 use Rattle.protocol.specs.Steps.{Worker, newWorker, arrivedAs, ownStep}
-use Rattle.protocol.specs.Rounds.{Entry, State, workerAt, ownMove, arrival, member, syncMove, newRound, Ruling, ruleOf, queueOf}
+use Rattle.protocol.specs.Rounds.{State, workerAt, ownMove, arrival, member, syncMove, newRound, Ruling, ruleOf, queueOf}
 use Rattle.protocol.specs.Turns.{workersOf, start, allArrived, can, move, closed, closing, ended, noneLeft, behind}
 use Rattle.protocol.specs.RoundRun.{moveLimit, stepNow, runUp, fence, holderStep, token, oneRound, roundsFrom, roundRun}
 use Rattle.protocol.specs.Demands.{occurs}
 use Rattle.protocol.proofs.Bools.{or-false, or-holds}
-use Rattle.protocol.proofs.Confluence.{Machine, Run, here, via, joined, Laws, run-kept, run-falls}
+use Rattle.protocol.proofs.Obeys.{machine}
+use Rattle.protocol.proofs.Confluence.{Run, here, via, joined, Laws, run-kept, run-falls}
 use Rattle.protocol.proofs.Invariant.{measure, Core, Inv}
 use Rattle.protocol.proofs.OwnMoves.{listed, own-leaves}
 use Rattle.protocol.proofs.Rulings.{Lawful, applied-core, applied-arrived}
 use Rattle.protocol.proofs.Rules.{rule-lawful}
 use Rattle.protocol.proofs.Fence.{can-runUp, can-hold, all-arrived, arrived-all}
 use Rattle.protocol.proofs.Counting.{occurs-same, occurs-tail, some-member}
-
-abbrev pub machine : Plan → Machine State Entry
-machine plan =
-    record {
-      can = can;
-      move = move plan;
-      ended = ended;
-      measure = measure plan;
-      tally = λ s. s .moves;
-      log = λ s. s .log;
-    }
 
 -- whether a worker has arrived
 abbrev mark : State → ℕ → Bool

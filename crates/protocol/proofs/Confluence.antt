@@ -173,7 +173,7 @@ module _ {S E : Type 0} (m : Machine S E) (Inv : S → Type 0) (n : ℕ) (laws :
     pub play-falls : m .measure (play m s ts) + movingTurns m s ts ≤ m .measure s
     play-falls = run-falls (played m s ts) i
 
-  ended-stays : (s : S) → Inv s → m .ended s ≡ true → (ts : List ℕ) → play m s ts ≡ s
+  pub ended-stays : (s : S) → Inv s → m .ended s ≡ true → (ts : List ℕ) → play m s ts ≡ s
   unfolding play
   ended-stays s i e [] = refl
   ended-stays s i e (w ∷ ws) = rw (laws .end-stops s w i e) (ended-stays s i e ws)

@@ -36,6 +36,7 @@ pub mod OwnMoves
 pub mod Rulings
 pub mod Rules
 pub mod Laws
+pub mod Obeys
 pub mod Bounds
 pub mod ByRounds
 pub mod Demand3

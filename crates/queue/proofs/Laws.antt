@@ -8,9 +8,9 @@ use mathlib.Core.Path.{_≡_, refl, ap, sym, _∙_}
 use mathlib.Core.List.{List, [], _∷_}
 use lib.Dec.{eqb}
 use lib.ListN.{length, getD, drop}
-use Rattle.protocol.specs.Format.{countFrom, upTo}
 use Rattle.protocol.specs.Rounds.{member}
 use Rattle.protocol.specs.Turns.{noneLeft}
+use Rattle.protocol.proofs.Bools.{or-holds}
 use Rattle.queue.specs.declared.Queue.{Queue}
 use Rattle.queue.specs.List.{digitsOf, listOf, Good, Holds, Below}
 use Rattle.queue.proofs.Digits.{length-list}
@@ -56,19 +56,7 @@ below-first n (w ∷ ws) h b = b w (rw (eq-eqb w w refl))
 pub below-rest : (n : ℕ) (ws : List ℕ) → Below n ws → Below n (drop 1 ws)
 unfolding member
 below-rest n [] b v m = b v m
-below-rest n (w ∷ ws) b v m = b v (either (eqb v w) m)
-  where
-    either : (a : Bool) {b : Bool} → b ≡ true → a || b ≡ true
-    either true e = refl
-    either false e = e
+below-rest n (w ∷ ws) b v m = b v (or-holds (eqb v w) m)
 
 pub first-small : (q : Queue) → 0 < length (listOf q) → first (listOf q) < 16
 first-small q h = below-first 16 (listOf q) h (workers-small q)
-
-length-count : (n i : ℕ) → length (countFrom n i) ≡ n
-unfolding countFrom
-length-count zero i = refl
-length-count (suc n) i = ap suc (length-count n (suc i))
-
-pub length-up-to : (n : ℕ) → length (upTo n) ≡ n
-length-up-to n = length-count n 0

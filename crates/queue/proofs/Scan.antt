@@ -1,13 +1,12 @@
 -- The laws of a scan, which takes workers off one queue and puts those that pass a test on another.
 -- Assumes nothing.
-use Prim.Native.Nat.{ℕ, zero, suc, _+_, _≤_, _<_}
+use Prim.Native.Nat.{ℕ, _+_, _≤_, _<_}
 use native.Mathlib.Omega.{arith}
 use mathlib.Core.Bool.{Bool, true, false, cond, not, Bool·beq}
 use mathlib.Core.Path.{_≡_, refl, ap, sym, _∙_}
 use mathlib.Core.List.{List, [], _∷_, _++_, append-assoc, append-nil}
 use lib.ListN.{length, drop, length-append}
 use borrow.Author.Tests.{eq-eqb, ne-eqb, not-false}
-use Rattle.protocol.specs.Format.{countFrom, upTo}
 use Rattle.protocol.specs.Rounds.{keep, member}
 use Rattle.protocol.specs.Turns.{noneLeft}
 use Rattle.queue.specs.declared.Queue.{Queue}
@@ -85,19 +84,3 @@ module _ {t : ℕ → Bool} {all : List ℕ} {l k : Queue} (s : Scan t all l k) 
           short = omega (arith, rest-less l some rest, s .short, ap length (pushed .list), length-append (listOf k) (v ∷ []));
           list = rw (pushed .list, append-assoc) (turned e y);
         }
-
--- one more worker
-count-more : (n i : ℕ) → countFrom (suc n) i ≡ countFrom n i ++ ((n + i) ∷ [])
-unfolding countFrom
-count-more zero i =
-    let e : 0 + i ≡ i = omega arith in
-    rw e
-count-more (suc n) i =
-    let e : suc n + i ≡ n + suc i = omega arith in
-    rw e (ap (λ (ws : List ℕ). i ∷ ws) (count-more n (suc i)))
-
-pub up-to-more : (n : ℕ) → upTo (n + 1) ≡ upTo n ++ (n ∷ [])
-up-to-more n =
-    let a : n + 1 ≡ suc n = omega arith in
-    let b : n + 0 ≡ n = omega arith in
-    rw a (rw b at (count-more n 0))

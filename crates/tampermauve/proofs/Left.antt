@@ -14,7 +14,8 @@ use Rattle.protocol.proofs.Sound.{Sound}
 use Rattle.protocol.proofs.Accepted.{sound-file}
 use Rattle.protocol.proofs.Invariant.{Inv}
 use Rattle.protocol.proofs.Laws.{start-inv}
-use Rattle.protocol.proofs.Bounds.{Bounded, bounded, play-inv}
+use Rattle.protocol.proofs.Bounds.{Bounded, bounded}
+use Rattle.protocol.proofs.Obeys.{play-inv}
 use Rattle.queue.specs.List.{listOf}
 use Rattle.journal.specs.Bytes.{reportOf}
 use Rattle.engine.specs.Turning.{Over}

@@ -6,8 +6,7 @@ use mathlib.Core.Path.{_≡_, ap}
 use lib.ListN.{length}
 use Rattle.protocol.specs.Format.{upTo, countFrom}
 use Rattle.queue.specs.List.{Holds}
-use Rattle.queue.proofs.Laws.{length-up-to}
-use Rattle.queue.proofs.Scan.{up-to-more}
+use Rattle.protocol.proofs.Lists.{length-countFrom, up-to-more}
 use Rattle.queue.proofs.Queue.up_to.Statement.{statement}
 use Rattle.queue.proofs.Queue.up_to.Tie as tie
 
@@ -27,7 +26,7 @@ loop-holds c = (c .empty .ensures, omega arith)
 push-requires : tie.Need-push-requires Inv-loop μ-loop
 push-requires c κs =
     let h = c .before .loop .inv .0 in
-    (h .good, omega (arith, ap length (h .list), length-up-to (c .before .loop .i)), omega arith)
+    (h .good, omega (arith, ap length (h .list), length-countFrom (c .before .loop .i) 0), omega arith)
 
 add-i : tie.Need-add-i Inv-loop μ-loop
 add-i c = omega arith
