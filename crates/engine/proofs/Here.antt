@@ -31,7 +31,7 @@ use Rattle.moves.specs.Moves.{fetchedAs, stepOfBody, InRange, OwnMoving}
 use Rattle.moves.proofs.Fetched.{fetchable, fetched, in-range}
 use Rattle.moves.proofs.Owned.{own-kind, sync-kind, step-of-own, own-ready}
 use Rattle.engine.specs.declared.state.Schedule.{Schedule}
-use Rattle.engine.specs.Kept.{Kept, recordOf}
+use Rattle.engine.specs.Kept.{Kept, privateOf}
 use Rattle.engine.specs.Moving.{Able, stateOf}
 use Rattle.engine.proofs.Facts as facts
 use Rattle.engine.proofs.Facts.{Holder, holder, ruleAt, applied, hold-core}
@@ -148,5 +148,5 @@ module _ {file sizes firsts : List ℕ} {w : ℕ} {t : Schedule} {k : Kept} (a :
     pub sync-here : opLock ≤ r .op → stepAt plan w (workerAt s w .place) ≡ sync (syncOf (r .op) (r .number))
     sync-here late = step-here (step-of-sync r late (sync-kind range late))
 
-    pub own-fits : r .op < opLock → OwnMoving (recordOf k w) r
-    own-fits early = own-ready (recordOf k w) r range (own-kind range early .0) (own-kind range early .1) place-small
+    pub own-fits : r .op < opLock → OwnMoving (privateOf k w) r
+    own-fits early = own-ready (privateOf k w) r range (own-kind range early .0) (own-kind range early .1) place-small

@@ -13,7 +13,8 @@ use Rattle.protocol.specs.Format.{workersLimit, sync, Sync, planOf}
 use Rattle.protocol.specs.Pages.{Copies}
 use Rattle.protocol.specs.Steps as steps
 use Rattle.protocol.specs.Steps.{going, newWorker, fateAs, stepAt}
-use Rattle.protocol.specs.Rounds.{State, workerAt, Ruling, memoryAfter, copiesAfter, fateAfter, arrivedAfter, afterRuling, staysIn, joinsNext, joinsWaiting, member, without, freed, entryOf, apply, newRound}
+use Rattle.protocol.specs.Rounds.{State, workerAt, Ruling, memoryAfter, copiesAfter, fateAfter, arrivedAfter, afterRuling, staysIn, joinsNext, joinsWaiting, member}
+use Rattle.protocol.specs.Rounds.{without, freed, entryOf, apply, newRound}
 use Rattle.protocol.specs.Turns.{workersOf, isFirst, closing, closed, move}
 use Rattle.protocol.specs.Report.{entryLength, logBytes}
 use Rattle.protocol.specs.Calls.{workLength, memoryLength, logLength}
@@ -29,7 +30,7 @@ use Rattle.rules.specs.Moves.{ListsMoved}
 use Rattle.token.specs.Token.{TurnedOver}
 use Rattle.token.specs.declared.Round.{Round}
 use Rattle.engine.specs.declared.state.Schedule.{Schedule}
-use Rattle.engine.specs.Kept.{Kept, kept, recordOf}
+use Rattle.engine.specs.Kept.{Kept, kept, privateOf}
 use Rattle.engine.specs.Refines.{SameBytes, SameLog, Refines}
 use Rattle.engine.specs.Moving.{Able, stateOf}
 use Rattle.engine.proofs.CanMove.{can-token, mark-set}
@@ -46,7 +47,7 @@ heldKept k w v fates can copied memory log =
 pub record StepDone (s : State) (w : ℕ) (y : Sync) (R : Ruling) (t : Schedule) (k : Kept) (v : Worker) (ls : Lists) (r : Round) (fates′ : List ℕ) (can′ copied′ : List Bool)
     (memory′ log′ : List ℕ) : Type 0 where
   pub lists : ListsMoved (t .lists) R w ls
-  pub worker : v ≡ heldAs (recordOf k w) (R .held)
+  pub worker : v ≡ heldAs (privateOf k w) (R .held)
   pub fateCount : length fates′ ≡ workersLimit
   pub fates : (u : ℕ)
       → getD fates′ u 0 ≡ cond (eqb u w) (fateCode (fateAfter (R .goes))) (cond (member u (R .wakes ++ R .joins)) 0 (getD (k .fates) u 0))
@@ -113,11 +114,11 @@ module _ {file sizes firsts : List ℕ} {w : ℕ} {t : Schedule} {k : Kept} (a :
   unfolding apply
   at-other u ne = getD-set-other (freed out (s .workers)) w u (afterRuling R (workerAt s w)) newWorker ne ∙ freed-at out (s .workers) u
 
-  view : workerAt s w ≡ viewed (recordOf k w) (workerAt s w .arrived) (copiesIn (k .copied) (k .work) w) (workerAt s w .fate)
+  view : workerAt s w ≡ viewed (privateOf k w) (workerAt s w .arrived) (copiesIn (k .copied) (k .work) w) (workerAt s w .fate)
   view = a .refines .bytes .worker w (known a)
 
   -- the records
-  record-here : recordOf k′ w ≡ heldAs (recordOf k w) (R .held)
+  record-here : privateOf k′ w ≡ heldAs (privateOf k w) (R .held)
   record-here =
       rw (getD-set-same (k .places) w (v .place) 0 (omega (arith, small a, a .refines .entries .places)))
       (rw (getD-set-same (k .held) w (v .held) 0 (omega (arith, small a, a .refines .entries .held)))
@@ -126,14 +127,14 @@ module _ {file sizes firsts : List ℕ} {w : ℕ} {t : Schedule} {k : Kept} (a :
       heldAs′ : ℕ → ℕ → Worker
       heldAs′ place held = record { place = place; held = held; registers = getD (k .registers) w 0 }
 
-  records : (u : ℕ) → (u ≡ w → ⊥) → recordOf k′ u ≡ recordOf k u
+  records : (u : ℕ) → (u ≡ w → ⊥) → privateOf k′ u ≡ privateOf k u
   records u ne = rw (getD-set-other (k .places) w u (v .place) 0 ne, getD-set-other (k .held) w u (v .held) 0 ne)
 
-  mine : workerAt after w ≡ viewed (recordOf k′ w) (arrivedAfter (R .goes)) (copiesIn copied′ (k .work) w) (fateAfter (R .goes))
+  mine : workerAt after w ≡ viewed (privateOf k′ w) (arrivedAfter (R .goes)) (copiesIn copied′ (k .work) w) (fateAfter (R .goes))
   mine =
       at-holder
       ∙ ap (λ (x : steps.Worker). afterRuling R x) view
-      ∙ ap (λ (cs : Copies). viewed (heldAs (recordOf k w) (R .held)) (arrivedAfter (R .goes)) cs (fateAfter (R .goes))) (sym (done .mine))
+      ∙ ap (λ (cs : Copies). viewed (heldAs (privateOf k w) (R .held)) (arrivedAfter (R .goes)) cs (fateAfter (R .goes))) (sym (done .mine))
       ∙ ap (λ (q : Worker). viewed q (arrivedAfter (R .goes)) (copiesIn copied′ (k .work) w) (fateAfter (R .goes))) (sym record-here)
 
   others : (u : ℕ) → (u ≡ w → ⊥) → workerAt after u ≡ fateAs (workerAt after u .fate) (workerAt s u)

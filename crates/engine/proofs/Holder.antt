@@ -32,7 +32,7 @@ use Rattle.moves.specs.Moves.{InRange}
 use Rattle.moves.proofs.Owned.{sync-kind}
 use Rattle.engine.specs.declared.state.Schedule.{Schedule}
 use Rattle.engine.specs.declared.hold.Decision.{Decision}
-use Rattle.engine.specs.Kept.{Kept, recordOf}
+use Rattle.engine.specs.Kept.{Kept, privateOf}
 use Rattle.engine.specs.Refines.{Refines}
 use Rattle.engine.specs.Holding.{Deciding, Decided, BytesSettled}
 use Rattle.engine.specs.Moving.{stateOf, Syncing}
@@ -131,7 +131,7 @@ module _ {r : Record} {w : ℕ} {t : Schedule} {sizes : List ℕ} {k : Kept} (h 
           omega arith
 
       -- what the parts leave shows the state after the move
-      module _ {v : Worker} (same-worker : v ≡ heldAs (recordOf k w) (d .ruling .held))
+      module _ {v : Worker} (same-worker : v ≡ heldAs (privateOf k w) (d .ruling .held))
           {fates′ : List ℕ} (f : FatesSettled (k .fates) (d .ruling) w fates′)
           {memory′ : List ℕ} {copied′ : List Bool} (b : BytesSettled (d .ruling .bytes) w (k .memory) (k .copied) (k .work) memory′ copied′)
           {outcome : ℕ} (same-outcome : outcome ≡ d .ruling .outcome) {records′ : ℕ} {log′ : List ℕ} (counted : records′ ≡ t .counts .records + 1)
@@ -153,7 +153,7 @@ module _ {r : Record} {w : ℕ} {t : Schedule} {sizes : List ℕ} {k : Kept} (h 
             let shows = h .here .refines in
             record {
               lists = lists-moved;
-              worker = same-worker ∙ ap (λ (q : rounds.Ruling). heldAs (recordOf k w) (q .held)) ruled;
+              worker = same-worker ∙ ap (λ (q : rounds.Ruling). heldAs (privateOf k w) (q .held)) ruled;
               fateCount = f .size;
               fates = λ u.
                   f .code u

@@ -22,7 +22,7 @@ use Rattle.worker.specs.declared.Worker.{Worker}
 use Rattle.moves.specs.Moves.{fetchedAs, OwnMoved}
 use Rattle.rules.specs.Codes.{fateCode}
 use Rattle.engine.specs.declared.state.Schedule.{Schedule}
-use Rattle.engine.specs.Kept.{Kept, kept, recordOf}
+use Rattle.engine.specs.Kept.{Kept, kept, privateOf}
 use Rattle.engine.specs.Refines.{Refines}
 use Rattle.engine.specs.Moving.{Able, stateOf}
 use Rattle.engine.specs.Turning.{movesAs}
@@ -47,7 +47,7 @@ ownKept k w v copied work =
 
 module _ {file sizes firsts : List ℕ} {w : ℕ} {t : Schedule} {k : Kept} (a : Able file sizes firsts w t k)
     {r : Record} (e : r ≡ fetchedAs file (getD firsts w 0) (getD firsts (w + 1) 0) (getD (k .places) w 0)) (early : r .op < opLock)
-    {v : Worker} {copied : List Bool} {work : List ℕ} (m : OwnMoved (recordOf k w) r w (k .memory) (k .copied) (k .work) copied work v) where
+    {v : Worker} {copied : List Bool} {work : List ℕ} (m : OwnMoved (privateOf k w) r w (k .memory) (k .copied) (k .work) copied work v) where
   abbrev s : State
   s = stateOf a
 
@@ -70,13 +70,13 @@ module _ {file sizes firsts : List ℕ} {w : ℕ} {t : Schedule} {k : Kept} (a :
   abbrev counting : ℕ → Worker
   counting h = record { place = v .place; held = h; registers = v .registers }
 
-  mine : recordOf k′ w ≡ v
+  mine : privateOf k′ w ≡ v
   mine =
       rw (getD-set-same (k .places) w (v .place) 0 (omega (arith, small a, a .refines .entries .places)))
       (rw (getD-set-same (k .registers) w (v .registers) 0 (omega (arith, small a, a .refines .entries .registers)))
       (ap counting (sym (m .held))))
 
-  records : (u : ℕ) → (u ≡ w → ⊥) → recordOf k′ u ≡ recordOf k u
+  records : (u : ℕ) → (u ≡ w → ⊥) → privateOf k′ u ≡ privateOf k u
   records u ne = rw (getD-set-other (k .places) w u (v .place) 0 ne, getD-set-other (k .registers) w u (v .registers) 0 ne)
 
   new : x ≡ viewed v (workerAt s w .arrived) (copiesIn copied work w) (workerAt s w .fate)

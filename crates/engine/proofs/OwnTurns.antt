@@ -14,7 +14,7 @@ use Rattle.plan.specs.declared.decode.Record.{Record}
 use Rattle.worker.specs.declared.Worker.{Worker}
 use Rattle.token.specs.Passes.{Passed}
 use Rattle.moves.specs.Moves.{fetchedAs, OwnMoved}
-use Rattle.engine.specs.Kept.{Kept, recordOf}
+use Rattle.engine.specs.Kept.{Kept, privateOf}
 use Rattle.engine.specs.Refines.{Refines}
 use Rattle.engine.specs.Moving.{Able}
 use Rattle.engine.specs.Turning.{Turning, movesAs}
@@ -80,7 +80,7 @@ module _ {file firsts turns : List ℕ} {from made : ℕ} {k : List ℕ → List
       pub moves-on : {r : Record} {v : Worker} {copied : List Bool} {work : List ℕ} {count : ℕ}
           → ((fates log : List ℕ)
           → (r ≡ fetchedAs file (getD firsts (getD turns i 0) 0) (getD firsts (getD turns i 0 + 1) 0) (getD (k′ fates log .places) (getD turns i 0) 0))
-          × OwnMoved (recordOf (k′ fates log) (getD turns i 0)) r (getD turns i 0) (k′ fates log .memory) (k′ fates log .copied) (k′ fates log .work) copied work v)
+          × OwnMoved (privateOf (k′ fates log) (getD turns i 0)) r (getD turns i 0) (k′ fates log .memory) (k′ fates log .copied) (k′ fates log .work) copied work v)
           → r .op < opLock
           → count ≡ moves + 1
           → SoFar file firsts turns from made k (i + 1) count (λ fates log. ownKept (k′ fates log) (getD turns i 0) v copied work)

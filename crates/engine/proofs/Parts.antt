@@ -26,7 +26,7 @@ use Rattle.rules.specs.Codes.{fateCode}
 use Rattle.token.specs.Token.{raised, NewRound, SameRound, TurnedOver}
 use Rattle.token.specs.declared.Round.{Round}
 use Rattle.engine.specs.declared.state.Schedule.{Schedule}
-use Rattle.engine.specs.Kept.{Kept, recordOf}
+use Rattle.engine.specs.Kept.{Kept, privateOf}
 use Rattle.engine.specs.Refines.{SameBytes, SameLists}
 use Rattle.engine.proofs.CanMove.{cond-false, none-away, can-token, can-fence, away-all, mark-set, raised-length, raised-at}
 
@@ -37,9 +37,9 @@ as-viewed {x} v {a} {cs} {f} e = subst⁻¹ (λ (y : steps.Worker). y ≡ viewed
 -- One worker has a new record and new copies. Of the others only the fate may be new.
 pub bytes-moved : {n w : ℕ} {s s′ : State} {k k′ : Kept} {a : Bool} {f : Fate} → SameBytes n s k
     → s′ .memory ≡ k′ .memory → Lent (k′ .memory) (k′ .work) → length (k′ .copied) ≡ slotCount
-    → workerAt s′ w ≡ viewed (recordOf k′ w) a (copiesIn (k′ .copied) (k′ .work) w) f
+    → workerAt s′ w ≡ viewed (privateOf k′ w) a (copiesIn (k′ .copied) (k′ .work) w) f
     → ((u : ℕ) → (u ≡ w → ⊥) → workerAt s′ u ≡ fateAs (workerAt s′ u .fate) (workerAt s u))
-    → ((u : ℕ) → (u ≡ w → ⊥) → recordOf k′ u ≡ recordOf k u)
+    → ((u : ℕ) → (u ≡ w → ⊥) → privateOf k′ u ≡ privateOf k u)
     → ((u : ℕ) → (u ≡ w → ⊥) → copiesIn (k′ .copied) (k′ .work) u ≡ copiesIn (k .copied) (k .work) u)
     → SameBytes n s′ k′
 bytes-moved {n} {w} {s} {s′} {k} {k′} b shared sizes marks mine others records copies =
@@ -48,13 +48,13 @@ bytes-moved {n} {w} {s} {s′} {k} {k′} b shared sizes marks mine others recor
     Seen : ℕ → Worker → Copies → Type 0
     Seen u v cs = workerAt s′ u ≡ viewed v (workerAt s′ u .arrived) cs (workerAt s′ u .fate)
 
-    go : (u : ℕ) → u < n → Dec (u ≡ w) → Seen u (recordOf k′ u) (copiesIn (k′ .copied) (k′ .work) u)
+    go : (u : ℕ) → u < n → Dec (u ≡ w) → Seen u (privateOf k′ u) (copiesIn (k′ .copied) (k′ .work) u)
     go u l (yes e) =
-        subst⁻¹ (λ (i : ℕ). Seen i (recordOf k′ i) (copiesIn (k′ .copied) (k′ .work) i)) e (as-viewed (recordOf k′ w) mine)
+        subst⁻¹ (λ (i : ℕ). Seen i (privateOf k′ i) (copiesIn (k′ .copied) (k′ .work) i)) e (as-viewed (privateOf k′ w) mine)
     go u l (no ne) =
         subst⁻¹ (λ (v : Worker). Seen u v (copiesIn (k′ .copied) (k′ .work) u)) (records u ne)
-        (subst⁻¹ (λ (cs : Copies). Seen u (recordOf k u) cs) (copies u ne)
-        (as-viewed (recordOf k u) (others u ne ∙ ap (λ (x : steps.Worker). fateAs (workerAt s′ u .fate) x) (b .worker u l))))
+        (subst⁻¹ (λ (cs : Copies). Seen u (privateOf k u) cs) (copies u ne)
+        (as-viewed (privateOf k u) (others u ne ∙ ap (λ (x : steps.Worker). fateAs (workerAt s′ u .fate) x) (b .worker u l))))
 
 -- the schedule behind a holder's step, whose round goes on or is the next
 abbrev pub scheduled : Lists → Round → Counts → Schedule

@@ -19,12 +19,12 @@ use Rattle.engine.specs.declared.state.Reached.{Reached}
 use Rattle.engine.specs.Kept.{Kept}
 use Rattle.engine.specs.Refines.{Refines}
 use Rattle.engine.specs.Moving.{Syncing, Synced}
-use Rattle.engine.specs.Turning.{Begun, Playing, Turning, Stopped, Turned, movesAs, Over}
+use Rattle.engine.specs.Turning.{RoundBegun, Playing, Turning, Stopped, Turned, movesAs, Over}
 use Rattle.engine.proofs.Playing.{after, plan-sound, able-here, moved}
 use Rattle.engine.proofs.StartRefines.{startKept, start-refines}
 
 -- what stands before turn i
-pub record Stands (file turns start : List ℕ) (i : ℕ) (t : Schedule) (k : Kept) : Type 0 where
+pub record PlayedSoFar (file turns start : List ℕ) (i : ℕ) (t : Schedule) (k : Kept) : Type 0 where
   pub within : i ≤ length turns
   pub refines : Refines (workersOf (planOf file)) (after (planOf file) start turns i) t k
 
@@ -34,16 +34,16 @@ over {k = k} shows =
     record { places = k .places; held = k .held; registers = k .registers; can = k .can; copied = k .copied; refines = shows }
 
 module _ {file : List ℕ} {n : ℕ} {sizes firsts turns memory log work : List ℕ} (p : Playing file n sizes firsts turns memory log work) where
-  pub begins : {t : Schedule} {can : List Bool} → Begun n (replicate workersLimit false) t can → Stands file turns memory 0 t (startKept can memory log work)
+  pub begins : {t : Schedule} {can : List Bool} → RoundBegun n (replicate workersLimit false) t can → PlayedSoFar file turns memory 0 t (startKept can memory log work)
   unfolding play
   begins {t} {can} begun =
       record {
         within = omega arith;
         refines =
-            start-refines (planOf file) memory log work (subst (λ (i : ℕ). Begun i (replicate workersLimit false) t can) (p .workers) begun) (p .bytes) (p .room);
+            start-refines (planOf file) memory log work (subst (λ (i : ℕ). RoundBegun i (replicate workersLimit false) t can) (p .workers) begun) (p .bytes) (p .room);
       }
 
-  module _ {i : ℕ} {t : Schedule} (k : List ℕ → List ℕ → Kept) (fates log′ : List ℕ) (s : Stands file turns memory i t (k fates log′)) where
+  module _ {i : ℕ} {t : Schedule} (k : List ℕ → List ℕ → Kept) (fates log′ : List ℕ) (s : PlayedSoFar file turns memory i t (k fates log′)) where
     unfoldable pub turning : Turning file firsts turns i (t .counts .moves) k
     turning =
         record {
@@ -59,11 +59,11 @@ module _ {file : List ℕ} {n : ℕ} {sizes firsts turns memory log work : List 
         }
 
     pub went-on : {r : Reached} {k′ : List ℕ → List ℕ → Kept} → Turned file firsts turns i (t .counts .moves) k r k′
-        → Stands file turns memory (r .turn) (movesAs t (r .moves)) (k′ fates log′)
+        → PlayedSoFar file turns memory (r .turn) (movesAs t (r .moves)) (k′ fates log′)
     unfolding turning
     went-on u = record { within = u .within; refines = u .refines turning }
 
-  module _ {i : ℕ} {t : Schedule} {k : Kept} (s : Stands file turns memory i t k) where
+  module _ {i : ℕ} {t : Schedule} {k : Kept} (s : PlayedSoFar file turns memory i t k) where
     -- at a turn that synchronises
     module _ (l : i < length turns) {r : Record} (stop : Stopped file firsts turns i k r) where
       unfoldable pub syncing : Syncing r (getD turns i 0) t sizes k
@@ -76,7 +76,7 @@ module _ {file : List ℕ} {n : ℕ} {sizes firsts turns memory log work : List 
             late = stop .late;
           }
 
-      pub synced : {t′ : Schedule} {k′ : Kept} → Synced r (getD turns i 0) t sizes k t′ k′ → Stands file turns memory (i + 1) t′ k′
+      pub synced : {t′ : Schedule} {k′ : Kept} → Synced r (getD turns i 0) t sizes k t′ k′ → PlayedSoFar file turns memory (i + 1) t′ k′
       unfolding syncing able-here
       synced done = record { within = omega arith; refines = moved (p .named) memory i l (s .refines) (stop .able) (done syncing) }
 
@@ -84,9 +84,11 @@ module _ {file : List ℕ} {n : ℕ} {sizes firsts turns memory log work : List 
     pub ends-here : {b : Bool} → b ≡ noneLeft (listOf (t .lists .list)) → b ≡ true
         → Over file turns memory (record { schedule = t; fates = k .fates }) (k .memory) (k .log) (k .work)
     ends-here none e =
+        let sound = plan-sound (p .named) in
+        let empty = ap noneLeft (sym (s .refines .lists .list .list)) ∙ sym none ∙ e in
         over
         (subst⁻¹ (λ (q : State). Refines (workersOf (planOf file)) q t k)
-        (rest-passes (planOf file) (plan-sound (p .named)) _ turns i (start-inv (planOf file) memory (plan-sound (p .named))) (ap noneLeft (sym (s .refines .lists .list .list)) ∙ sym none ∙ e)) (s .refines))
+        (rest-passes (planOf file) sound _ turns i (start-inv (planOf file) memory sound) empty) (s .refines))
 
     -- or all turns have been played
     pub all-played : length turns ≤ i → Over file turns memory (record { schedule = t; fates = k .fates }) (k .memory) (k .log) (k .work)
@@ -94,9 +96,9 @@ module _ {file : List ℕ} {n : ℕ} {sizes firsts turns memory log work : List 
 
   -- the turns up to one that synchronises, and that one
   pub stands-on : {i : ℕ} {t t′ : Schedule} (k : List ℕ → List ℕ → Kept) (fates log′ : List ℕ) {r : Reached} {k′ : List ℕ → List ℕ → Kept} {k″ : Kept}
-      → Stands file turns memory i t (k fates log′)
+      → PlayedSoFar file turns memory i t (k fates log′)
       → (u : Turned file firsts turns i (t .counts .moves) k r k′)
       → r .turn < length turns
       → Synced (r .step) (getD turns (r .turn) 0) (movesAs t (r .moves)) sizes (k′ fates log′) t′ k″
-      → Stands file turns memory (r .turn + 1) t′ k″
+      → PlayedSoFar file turns memory (r .turn + 1) t′ k″
   stands-on k fates log′ s u l done = synced (went-on k fates log′ s u) l (u .stopped l fates log′) done

@@ -20,9 +20,9 @@ use Rattle.worker.specs.Private.{viewed}
 use Rattle.worker.specs.declared.Worker.{Worker}
 use Rattle.rules.specs.Codes.{fateCode}
 use Rattle.engine.specs.declared.state.Schedule.{Schedule}
-use Rattle.engine.specs.Kept.{Kept, kept, recordOf}
+use Rattle.engine.specs.Kept.{Kept, kept, privateOf}
 use Rattle.engine.specs.Refines.{Refines}
-use Rattle.engine.specs.Turning.{Begun}
+use Rattle.engine.specs.Turning.{RoundBegun}
 use Rattle.engine.proofs.CanMove.{can-fence, away-all, raised-length, raised-at}
 use Rattle.engine.proofs.Parts.{as-viewed}
 
@@ -33,7 +33,7 @@ none = replicate workersLimit 0
 abbrev pub startKept : (can : List Bool) (memory log work : List ℕ) → Kept
 startKept can memory log work = kept none none none none can (replicate slotCount false) memory log work
 
-module _ (plan : Plan) {t : Schedule} {marks : List Bool} (memory log work : List ℕ) (begun : Begun (workersOf plan) (replicate workersLimit false) t marks)
+module _ (plan : Plan) {t : Schedule} {marks : List Bool} (memory log work : List ℕ) (begun : RoundBegun (workersOf plan) (replicate workersLimit false) t marks)
     (sizes : Lent memory work) (room : length log ≡ logLength) where
   abbrev k : Kept
   k = startKept marks memory log work
@@ -49,7 +49,7 @@ module _ (plan : Plan) {t : Schedule} {marks : List Bool} (memory log work : Lis
   abbrev blank : ℕ → Worker
   blank i = record { place = i; held = i; registers = i }
 
-  view : (w : ℕ) → workerAt (start plan memory) w ≡ viewed (recordOf k w) false (copiesIn (replicate slotCount false) work w) going
+  view : (w : ℕ) → workerAt (start plan memory) w ≡ viewed (privateOf k w) false (copiesIn (replicate slotCount false) work w) going
   unfolding newWorker
   view w =
       at-start w
@@ -76,7 +76,7 @@ module _ (plan : Plan) {t : Schedule} {marks : List Bool} (memory log work : Lis
               fates = refl;
               can = ap length (begun .marks) ∙ raised-length (upTo (workersOf plan)) (replicate workersLimit false);
             };
-        bytes = record { shared = refl; worker = λ w l. as-viewed (recordOf k w) (view w); sizes = sizes; marks = length-replicate slotCount false };
+        bytes = record { shared = refl; worker = λ w l. as-viewed (privateOf k w) (view w); sizes = sizes; marks = length-replicate slotCount false };
         lists = record {
           list = begun .list;
           next = begun .next;

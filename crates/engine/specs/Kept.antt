@@ -28,5 +28,5 @@ abbrev pub keptOwn : (places held registers : List ℕ) (can copied : List Bool)
 keptOwn ps hs rs cs ms memory work fs log = kept ps hs rs fs cs ms memory log work
 
 -- worker w's private record
-abbrev pub recordOf : Kept → ℕ → Worker
-recordOf k w = record { place = getD (k .places) w 0; held = getD (k .held) w 0; registers = getD (k .registers) w 0 }
+abbrev pub privateOf : Kept → ℕ → Worker
+privateOf k w = record { place = getD (k .places) w 0; held = getD (k .held) w 0; registers = getD (k .registers) w 0 }

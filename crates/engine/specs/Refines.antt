@@ -14,7 +14,7 @@ use Rattle.worker.specs.Private.{viewed}
 use Rattle.queue.specs.List.{Holds}
 use Rattle.rules.specs.Codes.{fateCode}
 use Rattle.engine.specs.declared.state.Schedule.{Schedule}
-use Rattle.engine.specs.Kept.{Kept, recordOf}
+use Rattle.engine.specs.Kept.{Kept, privateOf}
 
 -- how many of a list have not arrived at the fence
 unfoldable pub awayIn : State → List ℕ → ℕ
@@ -35,7 +35,7 @@ pub record SameBytes (n : ℕ) (s : State) (k : Kept) : Type 0 where
   pub worker :
       (w : ℕ)
       → w < n
-      → workerAt s w ≡ viewed (recordOf k w) (workerAt s w .arrived) (copiesIn (k .copied) (k .work) w) (workerAt s w .fate)
+      → workerAt s w ≡ viewed (privateOf k w) (workerAt s w .arrived) (copiesIn (k .copied) (k .work) w) (workerAt s w .fate)
   pub sizes : Lent (k .memory) (k .work)
   pub marks : length (k .copied) ≡ slotCount
 

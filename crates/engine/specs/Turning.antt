@@ -59,7 +59,7 @@ pub record Turned (file firsts turns : List ℕ) (from made : ℕ) (k : List ℕ
       → Refines (workersOf (planOf file)) (playedFrom (planOf file) (h .start) (take (r .turn) turns)) (movesAs (h .schedule) (r .moves)) (k′ (h .fates) (h .log))
 
 -- the schedule of round 1, and who can move
-pub record Begun (n : ℕ) (can : List Bool) (t : Schedule) (can′ : List Bool) : Type 0 where
+pub record RoundBegun (n : ℕ) (can : List Bool) (t : Schedule) (can′ : List Bool) : Type 0 where
   pub list : Holds (t .lists .list) (upTo n)
   pub next : Holds (t .lists .next) []
   pub waiting : Holds (t .lists .waiting) []

@@ -12,12 +12,12 @@ use rules::lists::Lists;
 use token::raise;
 ghost use Prim.Native.Nat.{_≤_};
 ghost use Rattle.protocol.specs.Format.{workersLimit};
-ghost use Rattle.engine.specs.Turning.{Begun, Playing, Over};
+ghost use Rattle.engine.specs.Turning.{RoundBegun, Playing, Over};
 
 // Round 1 of n workers: all of them are in its list, and all can move.
 fn first_round(n: u64, can: &mut [bool; WORKERS_LIMIT]) -> Schedule
     requires { ⌜ n ≤ workersLimit ⌝ }
-    ensures { λ t. ⌜ Begun n (now (can .entry)) t (now (can .exit)) ⌝ }
+    ensures { λ t. ⌜ RoundBegun n (now (can .entry)) t (now (can .exit)) ⌝ }
 {
     let list = Queue::up_to(n);
     let next = Queue::empty();

@@ -13,7 +13,8 @@ use borrow.Author.Tests.{lt-ltb, le-ltb, ltb-false, eq-eqb, eqb-false, not-true,
 use Rattle.protocol.specs.Calls.{addressLimit}
 use Rattle.protocol.specs.Ops.{opSet, opLoad, opStore, opAdd, opSubtract, opSkipZero, opSkipNonzero, opLock, opWait, opBarrier, opExit}
 use Rattle.protocol.specs.Format as format
-use Rattle.protocol.specs.Format.{registerCount, stepsLimit, Row, table, rowIn, rowOf, isStep, recordFrom, recordsFrom, recordCount, records, Step, sync, exit, stepOf, stepsIn, sizeIn, firstIn, planOf, barrierCount, recordLength, sizeLimit}
+use Rattle.protocol.specs.Format.{registerCount, stepsLimit, Row, table, rowIn, rowOf, isStep, recordFrom, recordsFrom, recordCount, records, Step, sync, exit, stepOf}
+use Rattle.protocol.specs.Format.{stepsIn, sizeIn, firstIn, planOf, barrierCount, recordLength, sizeLimit}
 use Rattle.protocol.specs.Refusals.{accepted, check, operandsOutside, anyOf}
 use Rattle.protocol.specs.Steps.{stepsOf, stepAt}
 use Rattle.protocol.proofs.Bools.{or-left, or-right, and-left}

@@ -17,7 +17,7 @@ use Rattle.protocol.proofs.OwnMoves.{own-leaves}
 use Rattle.plan.specs.declared.decode.Record.{Record}
 use Rattle.pages.specs.Copies.{copiesIn, WorkerHolds, slotCount}
 use Rattle.worker.proofs.OwnSteps.{step-own}
-use Rattle.worker.specs.Private.{viewed, ownOf, copiesAfter, OwnStepped}
+use Rattle.worker.specs.Private.{viewed, ownOf, copiesStored, OwnStepped}
 use Rattle.worker.specs.declared.Worker.{Worker}
 use Rattle.worker.specs.declared.Moved.{Moved}
 use Rattle.worker.specs.declared.Outcome.{Outcome}
@@ -56,10 +56,10 @@ pub kept : (w : ℕ) (copies : Copies) (marks : List Bool) (work : List ℕ) →
 kept w copies marks work e = record { mine = sym e; others = λ v n. refl; size = refl; markSize = refl }
 
 module _ (op : ℕ) (outcome : Outcome) (memory : List ℕ) (copies : Copies) (address : ℕ) where
-  by-op : (b : Bool) → eqb op opStore ≡ b → copiesLeft op outcome memory copies address ≡ cond b (copiesAfter outcome memory copies address) copies
-  by-op b e = ap (λ (t : Bool). cond t (copiesAfter outcome memory copies address) copies) e
+  by-op : (b : Bool) → eqb op opStore ≡ b → copiesLeft op outcome memory copies address ≡ cond b (copiesStored outcome memory copies address) copies
+  by-op b e = ap (λ (t : Bool). cond t (copiesStored outcome memory copies address) copies) e
 
-  pub left-store : op ≡ opStore → copiesLeft op outcome memory copies address ≡ copiesAfter outcome memory copies address
+  pub left-store : op ≡ opStore → copiesLeft op outcome memory copies address ≡ copiesStored outcome memory copies address
   left-store e = by-op true (eq-eqb op opStore e)
 
   pub left-other : (op ≡ opStore → ⊥) → copiesLeft op outcome memory copies address ≡ copies
@@ -111,7 +111,7 @@ own-moved v r w memory marks work marks′ work′ read m eight loads stepped ho
     copies = copiesIn marks work w
 
     after : Copies
-    after = copiesAfter (m .outcome) memory copies (r .number)
+    after = copiesStored (m .outcome) memory copies (r .number)
 
     o : Own
     o = ownOf (r .op) (r .register) (r .number)

@@ -14,7 +14,7 @@ use Rattle.protocol.specs.Pages.{Copies, loadWord}
 use Rattle.plan.specs.Answer.{bodyOf}
 use Rattle.plan.specs.declared.decode.Record.{Record}
 use Rattle.pages.specs.Copies.{copiesIn, slotCount}
-use Rattle.worker.specs.Private.{viewed, ownOf, copiesAfter, OwnStepping}
+use Rattle.worker.specs.Private.{viewed, ownOf, copiesStored, OwnStepping}
 use Rattle.worker.specs.declared.Worker.{Worker}
 use Rattle.worker.specs.declared.Outcome.{Outcome}
 
@@ -54,7 +54,7 @@ readBy op memory copies address = cond (eqb op opLoad) (loadWord memory copies a
 
 -- the copies after an own step: only a store changes them
 abbrev pub copiesLeft : ℕ → Outcome → List ℕ → Copies → ℕ → Copies
-copiesLeft op outcome memory copies address = cond (eqb op opStore) (copiesAfter outcome memory copies address) copies
+copiesLeft op outcome memory copies address = cond (eqb op opStore) (copiesStored outcome memory copies address) copies
 
 -- Worker w has made the definition's step, and every other worker has the copies that it had.
 pub record OwnMoved (v : Worker) (r : Record) (w : ℕ) (memory : List ℕ) (marks : List Bool) (work : List ℕ) (marks′ : List Bool) (work′ : List ℕ) (v′ : Worker) : Type 0 where

@@ -55,7 +55,9 @@ fn keep(
     copied: &mut [bool; SLOTS],
 )
     requires { ⌜ Lent (now memory) (now work) × (length (now copied) ≡ slotCount) × (w < workersLimit) × (r .op ≡ opStore → r .number ≤ addressLimit) ⌝ }
-    ensures { λ _. ⌜ WorkerHolds w (copiesLeft (r .op) outcome (now (memory .entry)) (copiesIn (now (copied .entry)) (now (work .entry)) w) (r .number)) (now (copied .entry)) (now (work .entry)) (now (copied .exit)) (now (work .exit)) ⌝ }
+    ensures { λ _. ⌜ WorkerHolds w
+        (copiesLeft (r .op) outcome (now (memory .entry)) (copiesIn (now (copied .entry)) (now (work .entry)) w) (r .number))
+        (now (copied .entry)) (now (work .entry)) (now (copied .exit)) (now (work .exit)) ⌝ }
 {
     if r.op != ops::STORE {
         return;

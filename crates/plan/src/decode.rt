@@ -1,9 +1,10 @@
 // A record of the file.
 use format::limits::PLAN_MARK;
+use words::word;
 ghost use mathlib.Core.Path.{_≡_};
 ghost use Prim.Native.Nat.{_+_, _*_, _≤_};
 ghost use lib.ListN.{length};
-ghost use Rattle.protocol.specs.Format.{word, recordLength, recordFrom};
+ghost use Rattle.protocol.specs.Format.{recordLength, recordFrom};
 ghost use Rattle.plan.specs.Answer.{bodyOf, decodedOf};
 
 pub struct Record {
@@ -18,13 +19,6 @@ pub enum Decoded {
     Unmarked,
 }
 
-// Two bytes as a number, low byte first.
-pub fn pair(low: u8, high: u8) -> u16
-    ensures { λ r. ⌜ r ≡ word low high ⌝ }
-{
-    low as u16 + 256 * (high as u16)
-}
-
 // What stands behind the mark of the record whose first byte is at a position.
 pub fn body(file: &[u8], at: usize) -> Record
     requires { ⌜ at + recordLength ≤ length (now file) ⌝ }
@@ -34,7 +28,7 @@ pub fn body(file: &[u8], at: usize) -> Record
         worker: file[at + 2],
         op: file[at + 3],
         register: file[at + 4],
-        number: pair(file[at + 5], file[at + 6]),
+        number: word(file[at + 5], file[at + 6]),
     }
 }
 
@@ -43,7 +37,7 @@ pub fn decode(file: &[u8], at: usize) -> Decoded
     requires { ⌜ at + recordLength ≤ length (now file) ⌝ }
     ensures { λ r. ⌜ r ≡ decodedOf (recordFrom (now (file .entry)) at) ⌝ }
 {
-    if pair(file[at], file[at + 1]) != PLAN_MARK {
+    if word(file[at], file[at + 1]) != PLAN_MARK {
         return Decoded::Unmarked;
     }
     Decoded::Read(body(file, at))

@@ -14,5 +14,8 @@ use Rattle.protocol.specs.Listing.{cycles}
 use Rattle.protocol.proofs.Table.{turnsOf, padded, lentTo, yields, expected, expects, cases}
 
 pub cases-hold : map yields cases ≡ map expects cases
-unfolding recordFrom recordsFrom recordCount records rowIn known stepOf sizeIn stepsIn countFrom planIn anyOf lengthRule planRule barrierRecordRule operandsOutside stepRule laterRule recordRule skipRule checkSkips checkRecords check page noCopies loadByte loadWord storeByte storeWord commitFrom newWorker ownStep keep queueOf ruleOf member freed apply newRound start allArrived can move turn play total runUp fence token roundsFrom logBytes allLeft endOf fateByte reportBytes runVerdict lentLog run cycles turnsOf padded lentTo yields expected expects cases
+unfolding recordFrom recordsFrom recordCount records rowIn known stepOf sizeIn stepsIn countFrom planIn anyOf lengthRule planRule barrierRecordRule
+    operandsOutside stepRule laterRule recordRule skipRule checkSkips checkRecords check page noCopies loadByte loadWord storeByte storeWord
+    commitFrom newWorker ownStep keep queueOf ruleOf member freed apply newRound start allArrived can move turn play total runUp fence token
+    roundsFrom logBytes allLeft endOf fateByte reportBytes runVerdict lentLog run cycles turnsOf padded lentTo yields expected expects cases
 cases-hold = refl

@@ -8,7 +8,8 @@ use lib.Dec.{eqb, ltb}
 use lib.ListN.{length, getD}
 use Rattle.protocol.specs.Format.{Sync, lock, unlock, wait, signal, broadcast, barrier, exit, sync, Plan}
 use Rattle.protocol.specs.Steps.{Queue, onCondition, atBarrier, Fate, going, exited, failed, waiting, stepsOf, stepAt}
-use Rattle.protocol.specs.Rounds.{State, workerAt, waitsOn, keep, queueOf, Uncommitted, committed, lost, Goes, keeps, gives, leaves, ruling, failure, givesAtZero, commitsAtZero, lockRule, unlockRule, waitRule, signalRule, barrierRule, exitRule, ruleOf, fateAfter, hasArrived}
+use Rattle.protocol.specs.Rounds.{State, workerAt, waitsOn, keep, queueOf, Uncommitted, committed, lost, Goes, keeps, gives, leaves, ruling, failure, givesAtZero}
+use Rattle.protocol.specs.Rounds.{commitsAtZero, lockRule, unlockRule, waitRule, signalRule, barrierRule, exitRule, ruleOf, fateAfter, hasArrived}
 use Rattle.protocol.specs.Demands.{occurs}
 use Rattle.protocol.proofs.Invariant.{runs, gone, Core}
 use Rattle.protocol.proofs.Counting.{clash, occurs-empty, occurs-first, occurs-kept, occurs-dropped}

@@ -9,11 +9,13 @@ use mathlib.Core.List.{List, _∷_, _++_}
 use lib.ListN.{length, getD, set, length-set, length-append}
 use Rattle.protocol.specs.Format.{Sync, wait, Plan}
 use Rattle.protocol.specs.Steps.{Fate, going, exited, failed, waiting, Worker, newWorker, fateAs, stepsOf}
-use Rattle.protocol.specs.Rounds.{State, workerAt, Goes, keeps, gives, leaves, Ruling, fateAfter, hasArrived, arrivedAfter, afterRuling, staysIn, joinsNext, joinsWaiting, member, without, freed, apply}
+use Rattle.protocol.specs.Rounds.{State, workerAt, Goes, keeps, gives, leaves, Ruling, fateAfter, hasArrived, arrivedAfter, afterRuling, staysIn, joinsNext}
+use Rattle.protocol.specs.Rounds.{joinsWaiting, member, without, freed, apply}
 use Rattle.protocol.specs.Turns.{workersOf, allArrived}
 use Rattle.protocol.specs.Demands.{occurs}
 use Rattle.protocol.proofs.Invariant.{sumOf, runs, waits, gone, tick, lasting, weight, weightIn, placeOf, measure, Sane, Stands, Core}
-use Rattle.protocol.proofs.Counting.{occurs-same, occurs-other, occurs-one, occurs-none, occurs-empty, occurs-append, occurs-kept, occurs-dropped, member-some, member-none, some-member, each-set, sum-falls, sum-rises, freed-length, freed-at}
+use Rattle.protocol.proofs.Counting.{occurs-same, occurs-other, occurs-one, occurs-none, occurs-empty, occurs-append, occurs-kept, occurs-dropped, member-some}
+use Rattle.protocol.proofs.Counting.{member-none, some-member, each-set, sum-falls, sum-rises, freed-length, freed-at}
 use Rattle.protocol.proofs.Fence.{all-arrived, arrived-all}
 use Rattle.protocol.proofs.OwnMoves.{one-fate, waiter-exists, lasting-here, lasting-gone, Listed, listed}
 
@@ -220,7 +222,9 @@ module _ (plan : Plan) (s : State) (y : Sync) (r : Ruling) (h : ℕ) (rest : Lis
   others-weigh : (w : ℕ) → weightIn plan w (getD (freed (outOf r) (s .workers)) w newWorker) ≤ weightIn plan w (workerAt s w)
   others-weigh w =
       freed-case (outOf r) (s .workers) w (λ v. weightIn plan w v ≤ weightIn plan w (workerAt s w))
-      (λ o. omega (arith, lasting-here (workerAt s w .fate) (2 * (length (stepsOf plan w) + 1 - workerAt s w .place) - tick (workerAt s w .arrived)) (omega (arith, waiter w o, one-fate (workerAt s w .fate)))))
+      (λ o.
+      let left = 2 * (length (stepsOf plan w) + 1 - workerAt s w .place) - tick (workerAt s w .arrived) in
+      omega (arith, lasting-here (workerAt s w .fate) left (omega (arith, waiter w o, one-fate (workerAt s w .fate)))))
       (λ o. le-refl _)
 
   pub applied-falls : measure plan (apply y r h rest s) < measure plan s

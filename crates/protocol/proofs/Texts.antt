@@ -20,5 +20,8 @@ pub texts-hold :
     ∷ "refused 1 0\n"
     ∷ []
     )
-unfolding recordFrom recordsFrom recordCount records rowIn known stepOf sizeIn stepsIn countFrom planIn anyOf lengthRule planRule barrierRecordRule operandsOutside stepRule laterRule recordRule skipRule checkSkips checkRecords check page noCopies loadByte loadWord storeByte storeWord commitFrom newWorker ownStep keep queueOf ruleOf member freed apply newRound start allArrived can move turn play total allLeft endOf cycles digitsIn decimal line recordLine logLines endLine refusalLine listing
+unfolding recordFrom recordsFrom recordCount records rowIn known stepOf sizeIn stepsIn countFrom planIn anyOf lengthRule planRule barrierRecordRule
+    operandsOutside stepRule laterRule recordRule skipRule checkSkips checkRecords check page noCopies loadByte loadWord storeByte storeWord
+    commitFrom newWorker ownStep keep queueOf ruleOf member freed apply newRound start allArrived can move turn play total allLeft endOf cycles
+    digitsIn decimal line recordLine logLines endLine refusalLine listing
 texts-hold = refl

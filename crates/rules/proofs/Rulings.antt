@@ -9,6 +9,7 @@ use mathlib.Core.Logic.{⊎-elim}
 use mathlib.Core.Path.{_≡_, refl, sym, _∙_}
 use mathlib.Core.List.{List, [], _∷_}
 use lib.ListN.{length, getD, take}
+use Rattle.protocol.specs.Ops.{opBarrier}
 use Rattle.protocol.specs.Rounds as rounds
 use Rattle.protocol.specs.Rounds.{member, committed, keeps, givesAtZero, lockRule, unlockRule, waitRule, signalRule, barrierRule, exitRule, ruleOf}
 use Rattle.protocol.specs.Turns.{noneLeft}
@@ -89,7 +90,9 @@ module _ {op number held : ℕ} {sizes : List ℕ} {waiting : Queue} {fates : Li
         sound = m .sound;
       }
 
-  pub by-barrier : op ≡ 37 → Means held number waiting fates r (barrierRule number (getD sizes number 0) (found fates (listOf waiting) (barrierCode number)) held) → Ruled op number held sizes waiting fates r
+  pub by-barrier : op ≡ opBarrier
+      → Means held number waiting fates r (barrierRule number (getD sizes number 0) (found fates (listOf waiting) (barrierCode number)) held)
+      → Ruled op number held sizes waiting fates r
   unfolding syncOf ruleOf
   by-barrier e m = record { same = λ plan queue met at fit. rw (e, ← at e, fit e) (m .same); sound = m .sound }
 

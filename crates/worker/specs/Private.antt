@@ -58,9 +58,9 @@ unfoldable pub skipOf : ℕ → ℕ → ℕ → ℕ
 skipOf op value number = cond (cond (eqb op opSkipZero) (eqb value 0) (not (eqb value 0))) number 0
 
 -- the copies after a move: a step that stores leaves that to the caller
-abbrev pub copiesAfter : Outcome → List ℕ → Copies → ℕ → Copies
-copiesAfter Private memory copies address = copies
-copiesAfter (Stores value) memory copies address = storeWord memory copies address value
+abbrev pub copiesStored : Outcome → List ℕ → Copies → ℕ → Copies
+copiesStored Private memory copies address = copies
+copiesStored (Stores value) memory copies address = storeWord memory copies address value
 
 -- what a step takes: an own step of an accepted plan, and the worker within its steps
 pub record OwnStepping (v : Worker) (op register number : ℕ) : Type 0 where
@@ -77,4 +77,4 @@ pub record OwnStepped (v : Worker) (op register number loaded : ℕ) (m : Moved)
       (memory : List ℕ) (arrived : Bool) (copies : Copies) (fate : Fate)
       → (op ≡ opLoad → loaded ≡ loadWord memory copies number)
       → ownStep memory (ownOf op register number) (viewed v arrived copies fate)
-      ≡ viewed (m .worker) arrived (copiesAfter (m .outcome) memory copies number) fate
+      ≡ viewed (m .worker) arrived (copiesStored (m .outcome) memory copies number) fate

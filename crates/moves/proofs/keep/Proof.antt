@@ -3,7 +3,7 @@ use borrow.Author.Needs.{needs}
 use mathlib.Core.Path.{_∙_, ap, subst⁻¹}
 use Rattle.protocol.specs.Pages.{Copies}
 use Rattle.pages.specs.Copies.{copiesIn, WorkerHolds}
-use Rattle.worker.specs.Private.{copiesAfter}
+use Rattle.worker.specs.Private.{copiesStored}
 use Rattle.worker.specs.declared.Outcome.{Outcome}
 use Rattle.moves.proofs.Owned.{kept, left-store, left-other}
 use Rattle.moves.proofs.keep.Statement.{statement}
@@ -25,7 +25,7 @@ returns-2 c =
     let a = c .before .before .before .before .before .before .args in
     kept (a .w) _ (a .copied .now) (a .work .now)
     (left-store (a .r .op) (a .outcome) (a .memory .now) _ (a .r .number) (c .before .before .if1 .left)
-    ∙ ap (λ (o : Outcome). copiesAfter o (a .memory .now) (copiesIn (a .copied .now) (a .work .now) (a .w)) (a .r .number)) (c .enum-told .given .1))
+    ∙ ap (λ (o : Outcome). copiesStored o (a .memory .now) (copiesIn (a .copied .now) (a .work .now) (a .w)) (a .r .number)) (c .enum-told .given .1))
 
 cast-store : tie.Need-cast-store
 cast-store c = search needs
@@ -47,7 +47,7 @@ returns-3 c =
     let copies = copiesIn (a .copied .now) (a .work .now) (a .w) in
     subst⁻¹ (λ (cs : Copies). WorkerHolds (a .w) cs (a .copied .now) (a .work .now) (c .before .before .store .last .1 .1 .0) (c .before .before .store .last .1 .0))
     (left-store (a .r .op) (a .outcome) (a .memory .now) copies (a .r .number) (entry .if1 .left)
-    ∙ ap (λ (o : Outcome). copiesAfter o (a .memory .now) copies (a .r .number)) (out .outcome .given .1))
+    ∙ ap (λ (o : Outcome). copiesStored o (a .memory .now) copies (a .r .number)) (out .outcome .given .1))
     (c .before .before .store .ensures)
 
 pub keep-spec : {M : Type 1} → statement M

@@ -47,7 +47,8 @@ add-t18 c = search needs
 
 returns-2 : tie.Need-returns-2
 returns-2 c =
-    let none : noneLeft (listOf (c .before .before .before .before .before .before .args .list)) ≡ true = sym (c .before .before .before .before .before .is-empty .ensures) ∙ not-false _ (c .before .before .before .before .if1 .left) in
+    let e = c .before .before .before .before in
+    let none : noneLeft (listOf (e .before .before .args .list)) ≡ true = sym (e .before .is-empty .ensures) ∙ not-false _ (e .if1 .left) in
     record {
       ends = λ e. record { here = refl; later = c .before .empty .ensures; behind = c .count .ensures; counted = refl; marks = c .before .before .raise .ensures };
       goes = λ e. absurd (true≢false (sym none ∙ e));

@@ -3,6 +3,7 @@ use Prim.Native.Nat.{ℕ, _*_}
 use mathlib.Core.Path.{ap, _∙_}
 use mathlib.Core.List.{List}
 use lib.Seq.{sets}
+use Rattle.protocol.specs.Report.{entryLength}
 use Rattle.engine.proofs.hold.record_step.Statement.{statement}
 use Rattle.engine.proofs.hold.record_step.Tie as tie
 
@@ -28,10 +29,11 @@ same-length : tie.Need-same-length
 same-length c = search needs
 
 returns : tie.Need-returns
-returns c = (
-  c .before .before .append-record .ensures .count,
-  c .before .before .append-record .ensures .bytes ∙ ap (λ (bs : List ℕ). sets (c .before .before .before .before .before .before .before .args .log .now) (8 * c .before .before .before .before .before .before .before .args .records) bs) (c .before .before .before .before .packed .ensures),
-)
+returns c =
+    let appended = c .before .before .append-record .ensures in
+    let packed = c .before .before .before .before in
+    let a = packed .before .before .before .args in
+    (appended .count, appended .bytes ∙ ap (λ (bs : List ℕ). sets (a .log .now) (entryLength * a .records) bs) (packed .packed .ensures))
 
 pub record-step-spec : {M : Type 1} → statement M
 record-step-spec =

@@ -7,13 +7,13 @@ use mathlib.Core.List.{List}
 use lib.ListN.{length}
 use Rattle.engine.specs.Kept.{Kept, kept, keptOwn}
 use Rattle.engine.proofs.Playing.{plan-sound, turn-small}
-use Rattle.engine.proofs.Played.{Stands, begins, turning, went-on, syncing, stands-on, ends-here, all-played}
+use Rattle.engine.proofs.Played.{PlayedSoFar, begins, turning, went-on, syncing, stands-on, ends-here, all-played}
 use Rattle.engine.proofs.play.play.Statement.{statement}
 use Rattle.engine.proofs.play.play.Tie as tie
 
 abbrev Inv-loop : tie.InvT-loop
 Inv-loop file n sizes firsts turns memory₀ log₀ work₀ places₀ held₀ registers₀ fates₀ can₀ copied₀ t₀ i₀ memory log work places held registers fates can copied t i =
-    Stands file turns memory₀ i t (kept places held registers fates can copied memory log work)
+    PlayedSoFar file turns memory₀ i t (kept places held registers fates can copied memory log work)
 
 abbrev μ-loop : tie.MeasureT-loop
 μ-loop file n sizes firsts turns memory₀ log₀ work₀ places₀ held₀ registers₀ fates₀ can₀ copied₀ t₀ i₀ memory log work places held registers fates can copied t i =

@@ -22,24 +22,24 @@ add-t9 c = search needs
 shared-slice-read-t11 : tie.Need-shared-slice-read-t11
 shared-slice-read-t11 c = search needs
 
-add-pair : tie.Need-add-pair
-add-pair c = search needs
+add-word : tie.Need-add-word
+add-word c = search needs
 
-shared-slice-read-pair : tie.Need-shared-slice-read-pair
-shared-slice-read-pair c = search needs
+shared-slice-read-word : tie.Need-shared-slice-read-word
+shared-slice-read-word c = search needs
 
-add-pair-2 : tie.Need-add-pair-2
-add-pair-2 c = search needs
+add-word-2 : tie.Need-add-word-2
+add-word-2 c = search needs
 
-shared-slice-read-pair-2 : tie.Need-shared-slice-read-pair-2
-shared-slice-read-pair-2 c = search needs
+shared-slice-read-word-2 : tie.Need-shared-slice-read-word-2
+shared-slice-read-word-2 c = search needs
 
-pair-requires : tie.Need-pair-requires
-pair-requires c κs = search needs
+word-requires : tie.Need-word-requires
+word-requires c κs = search needs
 
 returns : tie.Need-returns
 unfolding recordFrom
-returns c = rw (c .pair .ensures)
+returns c = rw (c .word .ensures)
 
 pub body-spec : {M : Type 1} → statement M
 body-spec =
@@ -51,9 +51,9 @@ body-spec =
     shared-slice-read-t8
     add-t9
     shared-slice-read-t11
-    add-pair
-    shared-slice-read-pair
-    add-pair-2
-    shared-slice-read-pair-2
-    pair-requires
+    add-word
+    shared-slice-read-word
+    add-word-2
+    shared-slice-read-word-2
+    word-requires
     returns)

@@ -42,7 +42,9 @@ signal-requires : tie.Need-signal-requires
 signal-requires c κs = search needs
 
 returns-6 : tie.Need-returns-6
-returns-6 c = by-signal (omega (arith, c .before .before .before .before .before .before .pre .least)) (omega (arith, c .before .before .before .before .before .before .pre .most)) (c .signal .ensures)
+returns-6 c =
+    let p = c .before .before .before .before .before .before .pre in
+    by-signal (omega (arith, p .least)) (omega (arith, p .most)) (c .signal .ensures)
 
 pub rule-spec : {M : Type 1} → statement M
 rule-spec =

@@ -34,7 +34,9 @@ found-by : (fates ws : List ℕ) {qs : List ℕ} (code asked : ℕ) → qs ≡ f
 found-by fates ws code asked e k = e ∙ ap (λ (n : ℕ). found fates ws n) k
 
 -- the queued are those who wait on the condition
-asked : (c : tie.After-select) → listOf (c .select .result) ≡ found (now (c .before .before .args .fates)) (listOf (c .before .before .args .waiting)) (conditionCode (c .before .before .args .condition))
+asked : (c : tie.After-select)
+    → listOf (c .select .result)
+    ≡ found (now (c .before .before .args .fates)) (listOf (c .before .before .args .waiting)) (conditionCode (c .before .before .args .condition))
 asked c = found-by (now (c .before .before .args .fates)) (listOf (c .before .before .args .waiting)) _ (conditionCode (c .before .before .args .condition)) (c .select .ensures .list) (omega arith)
 
 returns : tie.Need-returns
