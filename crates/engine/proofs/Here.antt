@@ -21,6 +21,7 @@ use Rattle.protocol.proofs.OwnMoves.{Listed, listed}
 use Rattle.protocol.proofs.Laws.{start-inv}
 use Rattle.protocol.proofs.Obeys.{play-inv}
 use Rattle.protocol.proofs.Bounds.{bounded, records-bound, log-bound}
+use Rattle.plan.specs.Answer.{recordOf}
 use Rattle.plan.specs.declared.decode.Record.{Record}
 use Rattle.queue.specs.List.{listOf}
 use Rattle.queue.proofs.Laws.{below-first}
@@ -39,7 +40,7 @@ use Rattle.engine.proofs.Facts.{Holder, holder, ruleAt, applied, hold-c
 step-of-sync : (r : Record) → opLock ≤ r .op → r .op ≤ opExit → stepOfBody r ≡ sync (syncOf (r .op) (r .number))
 unfolding stepOfBody
 step-of-sync r least most =
-    step-sync (record { mark = 0; worker = r .worker; op = r .op; register = r .register; number = r .number }) least most
+    step-sync (recordOf r) least most
 
 member-some-length : (w : ℕ) (ws : List ℕ) → member w ws ≡ true → 0 < length ws
 unfolding member

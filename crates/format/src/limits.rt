@@ -1,4 +1,4 @@
-// The limits of a plan.
+// The limits of a plan and of its file.
 pub const WORKERS_LIMIT: usize = 8;
 
 pub const BARRIER_COUNT: usize = 8;
@@ -7,8 +7,16 @@ pub const SIZE_LIMIT: u16 = 8;
 
 pub const STEPS_LIMIT: usize = 128;
 
-// A record of the file, its mark as one number, and the longest file.
+// A record of the file: its length, where its parts stand behind the mark, and its mark as one number; and the longest file.
 pub const RECORD_LENGTH: usize = 7;
+
+pub const RECORD_WORKER: usize = 2;
+
+pub const RECORD_OP: usize = 3;
+
+pub const RECORD_REGISTER: usize = 4;
+
+pub const RECORD_NUMBER: usize = 5;
 
 pub const PLAN_MARK: u16 = 0x504D;
 

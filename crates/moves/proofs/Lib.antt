@@ -1,3 +1,4 @@
--- Own steps on the lent bytes; the step at a worker's place.
+-- An own step on the lent bytes, from its parts.
 pub mod Owned
+-- The step at a worker's place, by the file's layout.
 pub mod Fetched

@@ -14,6 +14,7 @@ use Rattle.protocol.specs.Pages.{Copies, loadWord}
 use Rattle.protocol.specs.Steps as steps
 use Rattle.protocol.specs.Steps.{Fate, going, ownStep}
 use Rattle.protocol.proofs.OwnMoves.{own-leaves}
+use Rattle.plan.specs.Answer.{recordOf}
 use Rattle.plan.specs.declared.decode.Record.{Record}
 use Rattle.pages.specs.Copies.{copiesIn, WorkerHolds, slotCount}
 use Rattle.worker.proofs.OwnSteps.{step-own}
@@ -33,7 +34,7 @@ sync-kind i h = ⊎-elim (λ k. absurd (omega arith)) (λ k. k .1) (i .kind)
 pub step-of-own : (r : Record) → opSet ≤ r .op → r .op ≤ opSkipNonzero → stepOfBody r ≡ own (ownOf (r .op) (r .register) (r .number))
 unfolding stepOfBody
 step-of-own r least most =
-    step-own (record { mark = 0; worker = r .worker; op = r .op; register = r .register; number = r .number }) least most
+    step-own (recordOf r) least most
 
 -- a record in range and a worker within its steps
 pub own-ready : {sizes : List ℕ} (v : Worker) (r : Record) → InRange sizes r → opSet ≤ r .op → r .op ≤ opSkipNonzero → v .place ≤ stepsLimit → OwnMoving v r

@@ -11,7 +11,7 @@ use Rattle.protocol.specs.Ops.{opSet, opLoad, opStore, opAdd, opSubtract, opSki
 use Rattle.protocol.specs.Format.{recordLength, registerCount, stepsLimit, barrierCount, sizeLimit, recordFrom, Step, stepOf}
 use Rattle.protocol.specs.Steps.{Fate, ownStep}
 use Rattle.protocol.specs.Pages.{Copies, loadWord}
-use Rattle.plan.specs.Answer.{bodyOf}
+use Rattle.plan.specs.Answer.{bodyOf, recordOf}
 use Rattle.plan.specs.declared.decode.Record.{Record}
 use Rattle.pages.specs.Copies.{copiesIn, slotCount}
 use Rattle.worker.specs.Private.{viewed, ownOf, copiesStored, OwnStepping}
@@ -29,7 +29,7 @@ fetchedAs file first end place =
 
 -- the step of a record without its mark
 unfoldable pub stepOfBody : Record → Step
-stepOfBody r = stepOf (record { mark = 0; worker = r .worker; op = r .op; register = r .register; number = r .number })
+stepOfBody r = stepOf (recordOf r)
 
 -- what the record of a step is like, by the table's ranges; `sizes` has the size of each barrier
 pub record InRange (sizes : List ℕ) (r : Record) : Type 0 where

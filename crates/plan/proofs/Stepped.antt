@@ -28,7 +28,7 @@ use Rattle.plan.proofs.Limited.{unknown, barrier-number}
 use Rattle.plan.proofs.Readings.{Body, before-more, length-before, told, marked-rule, rules-more, read, workers-same}
 
 -- what the reading of steps has kept of the records before record i
-pub record Kept (file : List ℕ) (i n : ℕ) (sizes : List ℕ) (opened : ℕ) (firsts : List ℕ) : Type 0 where
+pub record StepsKept (file : List ℕ) (i n : ℕ) (sizes : List ℕ) (opened : ℕ) (firsts : List ℕ) : Type 0 where
   pub least : 1 ≤ i
   pub few : n ≤ workersLimit
   pub rules : RulesHold file i
@@ -47,7 +47,7 @@ same-if : (a b : Bool) (f : protocol.Refusal) (x y : protocol.Rule) → a ≡ b 
 same-if a true f x y e g = ap (λ (t : Bool). refuseIf t f x) e
 same-if a false f x y e g = ap (λ (t : Bool). refuseIf t f x) e ∙ g refl
 
-module _ {file : List ℕ} {i n : ℕ} {sizes : List ℕ} {opened : ℕ} {firsts : List ℕ} (k : Kept file i n sizes opened firsts) where
+module _ {file : List ℕ} {i n : ℕ} {sizes : List ℕ} {opened : ℕ} {firsts : List ℕ} (k : StepsKept file i n sizes opened firsts) where
   abbrev rs : List Record
   rs = before file i
 
@@ -120,7 +120,7 @@ module _ {file : List ℕ} {i n : ℕ} {sizes : List ℕ} {opened : ℕ} {firsts
 
 -- one step record of the reading, by its index
 pub record OneStep (file : List ℕ) (i n : ℕ) (sizes : List ℕ) (opened : ℕ) (firsts : List ℕ) (b : Body) : Type 0 where
-  pub kept : Kept file i n sizes opened firsts
+  pub kept : StepsKept file i n sizes opened firsts
   pub noBarrier : opened ≡ 0 → isBarrier (fileRecord file i) ≡ false
   pub decoded : decodedOf (fileRecord file i) ≡ decoded.Read b
 
@@ -156,7 +156,7 @@ module _ {file : List ℕ} {i n : ℕ} {sizes : List ℕ} {opened : ℕ} {firsts
     pub worker-below : b .worker < n
     worker-below = omega (arith, step-of .below, at .kept .workers)
 
-    pub step-more : {new : List ℕ} → WorkersOpened firsts opened (b .worker + 1) i new → Kept file (i + 1) n sizes (b .worker + 1) new
+    pub step-more : {new : List ℕ} → WorkersOpened firsts opened (b .worker + 1) i new → StepsKept file (i + 1) n sizes (b .worker + 1) new
     step-more o =
         let k = at .kept in
         let opens = k .opens in
@@ -194,7 +194,7 @@ read-through file count = ap (λ (k : ℕ). protocol.checkRecords (before file c
     none-left : count - count ≡ 0
     none-left = omega arith
 
-pub records-read : {file : List ℕ} {count n : ℕ} {sizes : List ℕ} {opened : ℕ} {firsts new : List ℕ} → Kept file count n sizes opened firsts
+pub records-read : {file : List ℕ} {count n : ℕ} {sizes : List ℕ} {opened : ℕ} {firsts new : List ℕ} → StepsKept file count n sizes opened firsts
     → WorkersOpened firsts opened (workersLimit + 1) count new → RecordsRead file count sizes new
 records-read {file} {count} {opened = opened} k o =
     record {
@@ -210,7 +210,7 @@ records-read {file} {count} {opened = opened} k o =
 
 -- no step yet
 pub kept-first : {file : List ℕ} {count n : ℕ} {sizes : List ℕ} {start : ℕ} {firsts : List ℕ} → StepsSoFar file count n sizes start
-    → length firsts ≡ workersLimit + 1 → Kept file start n sizes 0 firsts
+    → length firsts ≡ workersLimit + 1 → StepsKept file start n sizes 0 firsts
 kept-first {file} {start = start} s size =
     record {
       least = s .least;

@@ -1,5 +1,9 @@
 // A record of the file.
 use format::limits::PLAN_MARK;
+use format::limits::RECORD_NUMBER;
+use format::limits::RECORD_OP;
+use format::limits::RECORD_REGISTER;
+use format::limits::RECORD_WORKER;
 use words::word;
 ghost use mathlib.Core.Path.{_≡_};
 ghost use Prim.Native.Nat.{_+_, _*_, _≤_};
@@ -19,16 +23,19 @@ pub enum Decoded {
     Unmarked,
 }
 
+// The high byte of a record's number.
+const NUMBER_HIGH: usize = RECORD_NUMBER + 1;
+
 // What stands behind the mark of the record whose first byte is at a position.
 pub fn body(file: &[u8], at: usize) -> Record
     requires { ⌜ at + recordLength ≤ length (now file) ⌝ }
     ensures { λ r. ⌜ r ≡ bodyOf (recordFrom (now (file .entry)) at) ⌝ }
 {
     Record {
-        worker: file[at + 2],
-        op: file[at + 3],
-        register: file[at + 4],
-        number: word(file[at + 5], file[at + 6]),
+        worker: file[at + RECORD_WORKER],
+        op: file[at + RECORD_OP],
+        register: file[at + RECORD_REGISTER],
+        number: word(file[at + RECORD_NUMBER], file[at + NUMBER_HIGH]),
     }
 }
 

@@ -1,48 +1,72 @@
--- Going by cases over a range of numbers.
+-- What everybody needs.
+
+-- Going by cases over a short range of numbers.
 pub mod Each
--- What everybody needs: Bools and lists.
+-- Disjunctions and conjunctions, and their parts.
 pub mod Bools
+-- Lists that are counted off, repeated or read from a file.
 pub mod Lists
--- The plan file. Lists of records, one more at the end: what the rules of a later record ask of those before it.
+-- The plan file: what an accepted one is; then which test decides a verdict, and that accepted means well-formed.
+
+-- Lists of records, one more at the end.
 pub mod Records
--- What it means that a record is taken: the rules, as facts.
+-- What it means that a record is taken: the rules of a later record, as facts.
 pub mod Taken
--- What holds of the records read so far, and stays true of one record more.
+-- The records that a reading has taken so far, and what is known of them.
 pub mod Prefix
 -- The table of steps: of every row, what its step is.
 pub mod Tabled
--- What a sound plan is.
+-- What the theorems ask of a plan.
 pub mod Sound
 -- What an accepted file is, and that its plan is sound.
 pub mod Accepted
--- The numbers of the refusals.
+-- A refusal's number is never 0.
 pub mod Numbered
--- The rule of a record stands for the record's tests.
+-- The rule of a record names the first of the record's tests that is due.
 pub mod Covered
--- The verdicts are those of the first test that is due.
+-- The verdicts of a check and of a run are those of the first test that is due.
 pub mod FirstDue
--- The records of an accepted file are well formed.
+-- The records of an accepted file are formed as `WellFormed` says.
 pub mod Described
--- Accepted is well formed, and runnable.
+-- Accepted just when well-formed, and a run just when runnable.
 pub mod Formed
--- The limit on moving turns, for a file.
+-- The limit on turns that move, in the file's terms.
 pub mod Limit
 -- Demand 3: a theorem about any machine, the laws of this one, the round-by-round run, and the claim on states and on bytes.
+
+-- Any machine whose moves fall, commute and go on: all its runs to the end reach one state.
 pub mod Confluence
+-- What holds of every state that a list of turns reaches, and the measure that falls with each move.
 pub mod Invariant
+-- Counts of a worker's occurrences in the lists, and sums over the workers.
 pub mod Counting
+-- Who can move; moves before the fence commute.
 pub mod Fence
+-- An own step and an arrival keep the invariant, and the measure falls.
 pub mod OwnMoves
+-- What a ruling does to the invariant and the measure.
 pub mod Rulings
+-- Every rule is lawful.
 pub mod Rules
+-- The laws that this machine obeys, for any plan and state.
 pub mod Laws
+-- The machine of the definitions obeys the laws; what follows for lists of turns.
 pub mod Obeys
+-- What the invariant bounds.
 pub mod Bounds
+-- The round-by-round run is one run of moves, from the start to the end.
 pub mod ByRounds
+-- Demand 3, of the definitions.
 pub mod Demand3
+-- Demand 3, of the bytes that an accepted run leaves.
 pub mod Bytes
+-- A record's round has begun when the record is logged, so it fits its two bytes.
 pub mod Logged
 -- The paper's cases, a check on the definitions.
+
+-- Cases 1 to 10 as one table, with the bytes that each leaves.
 pub mod Table
+-- The definitions yield the table.
 pub mod Cases
+-- The definitions yield case 1's text, byte by byte.
 pub mod Texts

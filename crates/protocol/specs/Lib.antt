@@ -1,15 +1,30 @@
 -- Document 01, a module for each of its sections, in its order.
+
+-- "Plan file": the ops by name.
 pub mod Ops
+-- "Plan file": records, the table of steps, and the plan that a file holds.
 pub mod Format
+-- "Who can cause which refusal": the refusals, and the check of a plan file.
 pub mod Refusals
+-- "Pages": a worker's copies, load, store and commit.
 pub mod Pages
+-- "Plan file" and "Rounds": a worker's private record, and its own steps.
 pub mod Steps
+-- "Rounds": the state of a run, and the rule of each synchronising step.
 pub mod Rounds
+-- "Turns": who can move, what one move does, and a list of turns.
 pub mod Turns
+-- "The round-by-round run".
 pub mod RoundRun
+-- "Log and report": both as bytes.
 pub mod Report
+-- "Calls and buffers": what the two host calls return and leave.
 pub mod Calls
+-- "Plan file" and "Calls and buffers" as a description: what a well-formed file is, and what a run accepts.
 pub mod WellFormed
+-- "Who can cause which refusal" as a description: each refusal's condition, and the order of the tests.
 pub mod Conditions
+-- Case 1: the listing program's turns and text.
 pub mod Listing
+-- Demand 3.
 pub mod Demands

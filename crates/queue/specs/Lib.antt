@@ -1,1 +1,2 @@
+-- What a queue holds, as a list of workers.
 pub mod List

@@ -1,4 +1,8 @@
+-- The numbers and enums of the code as the definitions have them.
 pub mod Codes
+-- What a ruling of the code stands for, and what a rule takes and leaves.
 pub mod Rules
+-- What the moves between the three lists take and leave.
 pub mod Moves
+-- What settling the fates takes and leaves.
 pub mod Fates

@@ -1,1 +1,2 @@
+-- Stretches of turns, one behind the other.
 pub mod Passing

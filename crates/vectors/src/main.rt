@@ -26,11 +26,13 @@ fn read_number(fd: i32) -> Number {
     Number::Read(word(bytes[0], bytes[1]))
 }
 
-// A word with a space behind it, and a number: the room is for any.
+// Room for a word with a space behind it, and any number.
+const LINE_ROOM: usize = 32;
+
 fn print_line(word: &[u8], number: u64)
     requires { ⌜ length (now word) ≤ 11 ⌝ }
 {
-    let mut text = [0u8; 32];
+    let mut text = [0u8; LINE_ROOM];
     let end = write_bytes(word, &mut text, 0);
     let length = write_line(&[number], &mut text, end);
     io::write_all(STDOUT_FILENO, &text[..length]);

@@ -16,13 +16,13 @@ use Rattle.plan.specs.Answer.{ruleAs}
 use Rattle.plan.specs.Reading.{fileRecord, verdictFrom}
 use Rattle.plan.specs.Stepping.{keptRule}
 use Rattle.plan.proofs.Readings.{Body, verdict-step, unmarked-rule, not-refused}
-use Rattle.plan.proofs.Stepped.{Kept, OneStep, kept-first, begun-before, same-rule, no-step-rule, worker-below, step-more, read-through, records-read}
+use Rattle.plan.proofs.Stepped.{StepsKept, OneStep, kept-first, begun-before, same-rule, no-step-rule, worker-below, step-more, read-through, records-read}
 use Rattle.plan.proofs.steps.read_by_table.Statement.{statement}
 use Rattle.plan.proofs.steps.read_by_table.Tie as tie
 
 abbrev Inv-loop : tie.InvT-loop
 Inv-loop file count n sizes start rows firsts₀ opened₀ i₀ firsts opened i =
-    (i ≤ count) × (opened ≤ n) × (opened ≡ 0 → i ≡ start) × Kept file i n sizes opened firsts
+    (i ≤ count) × (opened ≤ n) × (opened ≡ 0 → i ≡ start) × StepsKept file i n sizes opened firsts
     × (verdictFrom file count i ≡ verdictFrom file count start)
 
 abbrev μ-loop : tie.MeasureT-loop
@@ -217,7 +217,7 @@ returns-4 c =
     record {
       verdict = sym (read-through (a .file .now) (a .count)) ∙ (ap (λ (j : ℕ). verdictFrom (a .file .now) (a .count) j) (sym all) ∙ inv .4);
       size = c .open-workers2 .ensures .size ∙ inv .3 .size;
-      read = λ q. records-read (subst (λ (j : ℕ). Kept (a .file .now) j (a .n) (a .sizes .now) (l .before .loop .opened) (l .before .loop .firsts)) all (inv .3)) (c .open-workers2 .ensures);
+      read = λ q. records-read (subst (λ (j : ℕ). StepsKept (a .file .now) j (a .n) (a .sizes .now) (l .before .loop .opened) (l .before .loop .firsts)) all (inv .3)) (c .open-workers2 .ensures);
     }
 
 pub read-by-table-spec : {M : Type 1} → statement M

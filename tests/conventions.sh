@@ -1,0 +1,89 @@
+#!/usr/bin/env bash
+# Holds the crates to what docs/PROOFS.md says of names and imports, and the code to its named numbers:
+#   - no file of specs/ and no contract imports a proof: what a reader must believe is closed under imports;
+#   - no name stands for two things: a definition in the specs, a type in specs and proofs;
+#   - no number from 3 up stands in the code outside of a constant, a contract or the one match that numbers the refusals, whose names are the
+#     enum's, but for those of `meant` below, each with its reason; ops, fates and outcomes that are 0, 1 or 2 have their names too;
+#   - no line is longer than 200 characters.
+#
+#     tests/conventions.sh [ROOT]      ROOT stands for the repository
+set -u -o pipefail
+cd "${1:-$(dirname "${BASH_SOURCE[0]}")/..}" || exit 1
+export LC_ALL=C.UTF-8
+
+complaints=0
+complain() { # reads lines, and complains of each
+    local line
+    while IFS= read -r line; do
+        echo "conventions: $1: $line" >&2
+        complaints=$((complaints + 1))
+    done
+}
+
+files() { find crates -name "$1" -not -path '*/target/*' | sort; }
+
+# ---- imports
+
+complain "imports a proof" < <(files '*.antt' | grep /specs/ | xargs grep -nE '^(pub )?use [^{]*[.·]proofs\.')
+complain "a contract imports a proof" < <(files '*.rt' | xargs grep -nE '^ghost use [^{]*[.·]proofs\.')
+
+# ---- names: a definition of the specs stands in one file of all specs, a type in one file of specs and proofs
+
+declared() { # WHAT FILE...: the names that stand in more than one file
+    awk -v types="$1" '
+        { gsub(/^((abbrev|unfoldable|pub) )*/, "") }
+        /^(record|data) / { print $2, FILENAME; next }
+        !types && /^[^ :(){}=-][^ ]* :( |$)/ { print $1, FILENAME }' "${@:2}" | sort -u |
+        awk '{ files[$1] = files[$1] " " $2; count[$1]++ } END { for (n in count) if (count[n] > 1) print n ":" files[n] }' | sort
+}
+complain "stands for two things" < <(declared 0 $(files '*.antt' | grep /specs/))
+complain "is two types" < <(declared 1 $(files '*.antt'))
+
+# ---- numbers
+
+# Numbers that are no names of the paper: a crate or all of them, the number, the reason.
+meant() {
+    cat <<'END'
+* 256 the values of a byte, by which a word or a returned number is put together and taken apart
+* 65536 the values of a word, likewise and for arithmetic modulo 65,536
+* 4294967296 the values of two words, likewise
+* 255 the greatest byte
+queue 16 the base of a queue's digits
+worker 16 the bits of a register
+text 10 decimal digits
+text 48 the digit 0 in ASCII
+END
+}
+
+# The code without comments, contracts, constants and the refusals' numbers.
+code() {
+    awk '
+        { sub(/\/\/.*/, "") }
+        /^ *Refusal::[A-Za-z]+ => [0-9]+,$/ { next }
+        /^ghost use / { next }
+        contract || /^ *(requires|ensures)( [A-Za-z]+)? \{/ { contract = !/⌝ \}[ ]*$/; next }
+        constant || /^ *(pub )?const / { constant = !/;[ ]*$/; next }
+        { print FILENAME ":" FNR ":" $0 }' "$@"
+}
+complain "a number without a name" < <(
+    code $(files '*.rt') | awk -F: -v meant="$(meant)" '
+        BEGIN { n = split(meant, rows, "\n"); for (i = 1; i <= n; i++) { split(rows[i], row, " "); allowed[row[1] " " row[2]] } }
+        {
+            text = $0; sub(/^[^:]*:[0-9]*:/, "", text)
+            gsub(/b"[^"]*"|b\x27[^\x27]*\x27/, "", text)
+            split($1, path, "/")
+            while (match(text, /(^|[^A-Za-z0-9_.])(0x[0-9A-Fa-f]+|[0-9]+)/)) {
+                number = substr(text, RSTART, RLENGTH); sub(/^[^0-9]/, "", number)
+                text = substr(text, RSTART + RLENGTH)
+                if ((number ~ /^0x/ || number + 0 > 2) && !(("* " number) in allowed) && !((path[2] " " number) in allowed)) print $1 ":" $2 ": " number
+            }
+        }')
+complain "an op, a fate or an outcome without its name" < <(
+    code $(files '*.rt') | grep -E '\bop (==|!=|<|<=|>|>=) [0-9]|[0-9] (==|!=|<|<=|>|>=) (r\.)?op\b|\bop: [0-9]|Leaves\([0-9]|outcome: [0-9]|fates\[[a-z]+\] = [0-9]')
+
+# ---- lines
+
+complain "above 200 characters" < <(for f in $(files '*.antt') $(files '*.rt'); do awk -v f="$f" 'length($0) > 600 { print f ":" FNR }' "$f"; grep -nE '^.{201,}$' "$f" | cut -d : -f 1 | sed "s|^|$f:|"; done | sort -u)
+
+[ "$complaints" -eq 0 ] || exit 1
+echo "conventions: $(files '*.antt' | wc -l) files of antt and $(files '*.rt' | wc -l) of Rattle keep them"
