@@ -31,7 +31,7 @@ PROVED = $(shell find crates -name '*.rt' -o -name '*.antt') crates.txt
 unexport MAKEFLAGS MFLAGS
 
 # The tests of the gate. What each must print there is in .ci/said.
-TESTS = test-promises test-c test-listings test-simulator test-differential test-twin test-hold test-hosts test-fuzz test-vectors
+TESTS = test-promises test-conventions test-c test-listings test-simulator test-differential test-twin test-hold test-hosts test-fuzz test-vectors
 
 .PHONY: all
 all: lib header programs
@@ -134,6 +134,10 @@ test-readme: $(OUT)/readme $(OUT)/readme.expected
 .PHONY: test-promises
 test-promises:
 	tests/promises.sh
+
+.PHONY: test-conventions
+test-conventions:
+	tests/conventions.sh
 
 .PHONY: test-listings
 test-listings: target/bin/listing

@@ -122,6 +122,19 @@ promises() {
     rm $edits/clear-no-byte.edit
 }
 
+# ---- the conventions
+
+conventions() {
+    changed "specs that import a proof" crates/engine/specs/Moving.antt '2i use Rattle.protocol.proofs.Sound.{Sound}' 'imports a proof' make test-conventions
+    changed "a name for two things" crates/rules/specs/Fates.antt '$a abbrev pub kept : ℕ\nkept = 0' 'stands for two things: kept' make test-conventions
+    changed "a type of another's name" crates/rules/specs/Fates.antt 's/record Freeing/record Syncing/' 'is two types: Syncing' make test-conventions
+    changed "a number without a name" crates/plan/src/check.rt 's/FILE_LIMIT < bytes/7231 < bytes/' 'a number without a name' make test-conventions
+    changed "an op without its name" crates/worker/src/lib.rt 's/if op == ops::LOAD/if op == 2/' 'an op, a fate or an outcome without its name' make test-conventions
+    changed "an op that the header numbers otherwise" include/tampermauve.h 's/OP_WAIT 34u/OP_WAIT 43u/' "not the header's" make test-conventions
+    changed "an op that the definitions number otherwise" crates/protocol/specs/Ops.antt 's/opWait = 34/opWait = 43/' "not the definitions'" make test-conventions
+    changed "a limit that the header has otherwise" include/tampermauve.h 's/STEPS_LIMIT 128u/STEPS_LIMIT 127u/' 'a limit of the code' make test-conventions
+}
+
 # ---- the gate
 
 # An rt that proves nothing and says what rt ci would say of the crates and edits that it finds.
@@ -185,6 +198,7 @@ listings
 apart
 archives
 promises
+conventions
 gate_tests
 gate_proofs
 echo "$seen of $tried seen"

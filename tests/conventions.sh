@@ -4,6 +4,7 @@
 #   - no name stands for two things: a definition in the specs, a type in specs and proofs;
 #   - no number from 3 up stands in the code outside of a constant, a contract or the one match that numbers the refusals, whose names are the
 #     enum's, but for those of `meant` below, each with its reason; ops, fates and outcomes that are 0, 1 or 2 have their names too;
+#   - an op has one number and one word in the code, the definitions and the header, and so have the limits of the format;
 #   - no line is longer than 200 characters.
 #
 #     tests/conventions.sh [ROOT]      ROOT stands for the repository
@@ -80,6 +81,17 @@ complain "a number without a name" < <(
         }')
 complain "an op, a fate or an outcome without its name" < <(
     code $(files '*.rt') | grep -E '\bop (==|!=|<|<=|>|>=) [0-9]|[0-9] (==|!=|<|<=|>|>=) (r\.)?op\b|\bop: [0-9]|Leaves\([0-9]|outcome: [0-9]|fates\[[a-z]+\] = [0-9]')
+
+# ---- one word and one number for each op, and for each limit: in the code, the header and, for ops, the definitions
+
+in_code() { sed -nE "s/^pub const ([A-Z_]+): [a-z0-9]+ = (0x[0-9A-F]+|[0-9]+);\$/$2\1 \2/p" "crates/format/src/$1.rt"; }
+in_header() { sed -nE 's/^#define TAMPERMAUVE_([A-Z_]+) (0x[0-9A-F]+|[0-9]+)u?( .*)?$/\1 \2/p' include/tampermauve.h; }
+in_definitions() { sed -nE 's/^op([A-Za-z]+) = ([0-9]+)$/\1 \2/p' crates/protocol/specs/Ops.antt | sed -E 's/([a-z])([A-Z])/\1_\2/g; s/.*/OP_\U&/'; }
+ops=$(in_code ops OP_ | sort)
+[ -n "$ops" ] || echo "none in crates/format/src/ops.rt" | complain "ops"
+complain "an op of the code that is not the header's, or the other way round" < <(comm -3 <(echo "$ops") <(in_header | grep '^OP_' | sort))
+complain "an op of the code that is not the definitions', or the other way round" < <(comm -3 <(echo "$ops") <(in_definitions | sort))
+complain "a limit of the code that is not the header's" < <(comm -23 <(in_code limits '' | sort) <(in_header | sort))
 
 # ---- lines
 
