@@ -135,8 +135,6 @@ pub fn hold(
     };
     let stepped = v.synchronise(ruling.held, ruling.outcome);
     let v = stepped.worker;
-    places[w] = v.place;
-    held[w] = v.held;
     let records = record_step(r, w, stepped.outcome, counts.rounds, counts.records, log);
     let list = after.list;
     let next = after.next;
@@ -144,6 +142,8 @@ pub fn hold(
     let round = turn_over(list, next, w, counts.rounds, can);
     let here = round.list;
     let later = round.next;
+    places[w] = v.place;
+    held[w] = v.held;
     Schedule {
         lists: Lists {
             list: here,

@@ -69,18 +69,6 @@ element-copy-out-t34 c = omega (arith, named-late (c .before .before .before))
 synchronise-requires : tie.Need-synchronise-requires
 synchronise-requires c κs = place-small (from-decide (from-bytes (c .before .before .before .before)) .pre .1 .here)
 
-mul-places : tie.Need-mul-places
-mul-places c = omega (arith, named-late (from-step (c .before)))
-
-element-write-places : tie.Need-element-write-places
-element-write-places c = omega (arith, named-late (from-step (c .before)))
-
-mul-held-2 : tie.Need-mul-held-2
-mul-held-2 c = omega (arith, named-late (from-step (c .before)))
-
-element-write-held : tie.Need-element-write-held
-element-write-held c = omega (arith, named-late (from-step (c .before)))
-
 record-step-requires : tie.Need-record-step-requires
 record-step-requires c κs =
     let d = from-bytes (from-step (c .before .before)) in
@@ -96,6 +84,18 @@ turn-over-requires c κs =
     let p = from-decide d .pre in
     let x = d .decide .ensures in
     (small (p .1 .here), rounds-fit (p .1), list-below (p .1) x (p .0), x .moved .next .good, next-below (p .1) x (p .0))
+
+mul-places : tie.Need-mul-places
+mul-places c = omega (arith, named-late (from-step (from-record (from-turn (c .before .before)))))
+
+element-write-places : tie.Need-element-write-places
+element-write-places c = omega (arith, named-late (from-step (from-record (from-turn (c .before .before)))))
+
+mul-held-2 : tie.Need-mul-held-2
+mul-held-2 c = omega (arith, named-late (from-step (from-record (from-turn (c .before .before)))))
+
+element-write-held : tie.Need-element-write-held
+element-write-held c = omega (arith, named-late (from-step (from-record (from-turn (c .before .before)))))
 
 add-t34 : tie.Need-add-t34
 add-t34 c =
@@ -140,12 +140,12 @@ hold-spec =
     mul-t44
     element-copy-out-t34
     synchronise-requires
+    record-step-requires
+    turn-over-requires
     mul-places
     element-write-places
     mul-held-2
     element-write-held
-    record-step-requires
-    turn-over-requires
     add-t34
     same-length
     same-length-2
