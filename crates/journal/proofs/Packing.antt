@@ -12,8 +12,7 @@ use Rattle.protocol.specs.Format.{countFrom}
 use Rattle.protocol.specs.Rounds.{Entry}
 use Rattle.protocol.specs.Report.{entryLength, logMark, twoBytes, entryBytes, logBytes}
 use Rattle.words.specs.Bytes.{numberLength, bytesOf}
-use Rattle.journal.specs.Bytes.{entryAs, shown, fatesFrom, Narrowing, talliesOf}
-use Rattle.journal.specs.declared.report.Counts.{Counts}
+use Rattle.journal.specs.Bytes.{entryAs, shown, fatesFrom, talliesOf}
 
 -- the lowest byte, and the number of the others
 lowest : (a m : ℕ) → a < 256 → (a + 256 * m) % 256 ≡ a
@@ -47,15 +46,14 @@ packs n r w o k c is hr hw ho hk hc =
     (peel 3 _ w m₅ hw refl
     ∙ ap (λ (l : List ℕ). w ∷ l) (peel 2 _ o (k + 256 * c) ho refl ∙ ap (λ (l : List ℕ). o ∷ l) (peel 1 _ k c hk refl ∙ ap (λ (x : ℕ). k ∷ x ∷ []) last))))
 
-pub packs-tallies : (n e w : ℕ) (c : Counts) → n ≡ e + 256 * w + 65536 * (c .moves + 65536 * (c .rounds + 65536 * c .records))
-    → e < 256 → w < 256 → Narrowing c → bytesOf numberLength n ≡ talliesOf e w c
-packs-tallies n e w c is he hw narrow =
-    let last = c .rounds + 65536 * c .records in
-    let m₂ = c .moves + 65536 * last in
+pub packs-tallies : (n e w m r k : ℕ) → n ≡ e + 256 * w + 65536 * (m + 65536 * (r + 65536 * k))
+    → e < 256 → w < 256 → m < 65536 → r < 65536 → bytesOf numberLength n ≡ talliesOf e w m r k
+packs-tallies n e w m r k is he hw hm hr =
+    let m₂ = m + 65536 * (r + 65536 * k) in
     peel 7 n e (w + 256 * m₂) he (omega arith)
     ∙ ap (λ (l : List ℕ). e ∷ l)
     (peel 6 _ w m₂ hw refl
-    ∙ ap (λ (l : List ℕ). w ∷ l) (peel-two 4 _ (c .moves) last (narrow .moves) refl ∙ ap (λ (l : List ℕ). twoBytes (c .moves) ++ l) (peel-two 2 _ (c .rounds) (c .records) (narrow .rounds) refl)))
+    ∙ ap (λ (l : List ℕ). w ∷ l) (peel-two 4 _ m (r + 65536 * k) hm refl ∙ ap (λ (l : List ℕ). twoBytes m ++ l) (peel-two 2 _ r k hr refl)))
 
 -- one fate more, in front of those of the workers behind it
 pub fates-more : (workers : ℕ) (fates : List ℕ) (k w packed : ℕ) {b : ℕ} → b < 256 → b ≡ shown workers w (getD fates w 0)

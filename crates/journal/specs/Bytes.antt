@@ -36,8 +36,8 @@ pub record Narrowing (c : Counts) : Type 0 where
   pub records : c .records < 65536
 
 -- end, number of workers, moving turns, rounds, log records
-abbrev pub talliesOf : ℕ → ℕ → Counts → List ℕ
-talliesOf end workers c = end ∷ workers ∷ (twoBytes (c .moves) ++ (twoBytes (c .rounds) ++ twoBytes (c .records)))
+abbrev pub talliesOf : ℕ → ℕ → ℕ → ℕ → ℕ → List ℕ
+talliesOf end workers moves rounds records = end ∷ workers ∷ (twoBytes moves ++ (twoBytes rounds ++ twoBytes records))
 
 unfoldable pub reportOf : ℕ → ℕ → Counts → List ℕ → List ℕ
-reportOf end workers c fates = talliesOf end workers c ++ fatesFrom workers fates workersLimit 0
+reportOf end workers c fates = talliesOf end workers (c .moves) (c .rounds) (c .records) ++ fatesFrom workers fates workersLimit 0

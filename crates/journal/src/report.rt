@@ -64,12 +64,11 @@ fn packed_fates(fates: &[u64; WORKERS_LIMIT], workers: u8) -> u64
 }
 
 // The numbers of a report as one, the first lowest.
-fn packed_tallies(end: u8, workers: u8, c: Counts) -> u64
-    requires { ⌜ Narrowing c ⌝ }
-    ensures { λ r. ⌜ bytesOf numberLength r ≡ talliesOf end workers c ⌝ }
+fn packed_tallies(end: u8, workers: u8, moves: u16, rounds: u16, records: u16) -> u64
+    ensures { λ r. ⌜ bytesOf numberLength r ≡ talliesOf end workers moves rounds records ⌝ }
 {
-    let last = c.rounds + 65536 * (c.records as u64);
-    let counts = c.moves + 65536 * last;
+    let last = rounds as u64 + 65536 * (records as u64);
+    let counts = moves as u64 + 65536 * last;
     end as u64 + 256 * (workers as u64) + 65536 * counts
 }
 
@@ -85,7 +84,10 @@ pub fn write_report(
     requires { ⌜ length (now report) ≡ reportLength ⌝ }
     ensures { λ _. ⌜ now (report .exit) ≡ reportOf end workers c (now (fates .entry)) ⌝ }
 {
-    let tallies = packed_tallies(end, workers, c);
+    let moves = c.moves as u16;
+    let rounds = c.rounds as u16;
+    let records = c.records as u16;
+    let tallies = packed_tallies(end, workers, moves, rounds, records);
     let shown = packed_fates(fates, workers);
     put(report, REPORT_END, tallies);
     put(report, REPORT_FATES, shown);

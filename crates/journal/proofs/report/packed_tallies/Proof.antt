@@ -31,8 +31,8 @@ add-result-2 c = search needs
 
 returns : tie.Need-returns
 returns c =
-    let start = c .before .before in
-    packs-tallies _ (start .args .end) (start .args .workers) (start .args .c) (omega arith) (omega arith) (omega arith) (start .pre)
+    let a = c .args in
+    packs-tallies _ (a .end) (a .workers) (a .moves) (a .rounds) (a .records) (omega arith) (omega arith) (omega arith) (omega arith) (omega arith)
 
 pub packed-tallies-spec : {M : Type 1} → statement M
 packed-tallies-spec =

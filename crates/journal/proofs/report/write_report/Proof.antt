@@ -5,6 +5,15 @@ use Rattle.journal.proofs.Packing.{halves}
 use Rattle.journal.proofs.report.write_report.Statement.{statement}
 use Rattle.journal.proofs.report.write_report.Tie as tie
 
+cast-moves : tie.Need-cast-moves
+cast-moves c = search needs
+
+cast-rounds : tie.Need-cast-rounds
+cast-rounds c = search needs
+
+cast-records : tie.Need-cast-records
+cast-records c = search needs
+
 packed-tallies-requires : tie.Need-packed-tallies-requires
 packed-tallies-requires c κs = search needs
 
@@ -25,7 +34,7 @@ unfolding reportOf
 returns c =
     let put = c .before .before .before .before .before .before in
     let fates = put .before .before in
-    let start = fates .before .before .before in
+    let start = fates .before .before .before .before .before .before in
     halves (start .args .report .now) _ _ (start .pre .1) (put .put .ensures) (c .before .before .put2 .ensures)
     (fates .before .packed-tallies .ensures) (fates .packed-fates .ensures)
 
@@ -33,6 +42,9 @@ pub write-report-spec : {M : Type 1} → statement M
 write-report-spec =
     tie.close
     (tie.spec
+    cast-moves
+    cast-rounds
+    cast-records
     packed-tallies-requires
     packed-fates-requires
     put-requires
