@@ -10,6 +10,7 @@ use borrow.Rule.Slice.PartMut.{midOf, putMid}
 use lib.Seq.{sets, sets-eq, take-at, length-take-le}
 use Rattle.protocol.specs.Format.{countFrom}
 use Rattle.protocol.specs.Rounds.{Entry}
+use Rattle.protocol.specs.Calls.{reportLength}
 use Rattle.protocol.specs.Report.{entryLength, logMark, twoBytes, entryBytes, logBytes}
 use Rattle.words.specs.Bytes.{numberLength, bytesOf}
 use Rattle.journal.specs.Bytes.{entryAs, shown, fatesFrom, talliesOf}
@@ -95,9 +96,9 @@ cleared l at h =
     whole = length-take-le (length l - at) (drop at l) (let e = length-drop at l in omega arith)
 
 -- sixteen bytes written anew, eight and eight
-pub halves : (l : List ℕ) {m r a b : List ℕ} (x y : ℕ) → length l ≡ 16 → m ≡ sets l 0 (bytesOf 8 x) → r ≡ sets m 8 (bytesOf 8 y)
-    → bytesOf 8 x ≡ a → bytesOf 8 y ≡ b → r ≡ a ++ b
+pub halves : (l : List ℕ) {m r a b : List ℕ} (x y : ℕ) → length l ≡ reportLength → m ≡ sets l 0 (bytesOf numberLength x) → r ≡ sets m numberLength (bytesOf numberLength y)
+    → bytesOf numberLength x ≡ a → bytesOf numberLength y ≡ b → r ≡ a ++ b
 halves l x y size low high low-is high-is =
     rw (← low-is, ← high-is, high, low)
-    (sets-eq (bytesOf 8 x ++ bytesOf 8 y) l 0 (omega arith)
-    ∙ ap (λ (k : List ℕ). (bytesOf 8 x ++ bytesOf 8 y) ++ k) (drop-of-length-le l {i = 16} (omega arith)))
+    (sets-eq (bytesOf numberLength x ++ bytesOf numberLength y) l 0 (omega arith)
+    ∙ ap (λ (k : List ℕ). (bytesOf numberLength x ++ bytesOf numberLength y) ++ k) (drop-of-length-le l {i = reportLength} (omega arith)))

@@ -10,6 +10,7 @@ use lib.Seq.{drop-cons}
 use Rattle.protocol.specs.Rounds.{Entry}
 use Rattle.protocol.specs.Report.{End}
 use Rattle.protocol.specs.Listing.{decimal, space, separator, line, recordLine, endWord, endLine}
+use Rattle.text.specs.Text.{recordLineLimit}
 use Rattle.text.proofs.Writing.{Remains, left-as}
 use Rattle.text.proofs.Digits.{few-digits}
 
@@ -43,7 +44,7 @@ number-length n h = one-longer 19 n _ 0 (omega arith) none-long
 pub refusal-length : (n i : ℕ) → n < 256 → i < 16777216 → length (line (n ∷ i ∷ [])) ≤ 13
 refusal-length n i h l = one-longer 2 n _ 9 (omega arith) (one-longer 7 i _ 0 (omega arith) none-long)
 
-pub record-length : (r w o n c : ℕ) → r < 65536 → w < 256 → o < 256 → n < 256 → c < 256 → length (line (r ∷ w ∷ o ∷ n ∷ c ∷ [])) ≤ 22
+pub record-length : (r w o n c : ℕ) → r < 65536 → w < 256 → o < 256 → n < 256 → c < 256 → length (line (r ∷ w ∷ o ∷ n ∷ c ∷ [])) ≤ recordLineLimit
 record-length r w o n c hr hw ho hn hc =
     one-longer 4 r _ 16 (omega arith)
     (one-longer 2 w _ 12 (omega arith)

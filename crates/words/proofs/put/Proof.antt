@@ -5,16 +5,16 @@ use native.Mathlib.Omega.{arith}
 use mathlib.Core.Path.{_≡_, refl}
 use lib.ListN.{length, length-set}
 use lib.Seq.{sets}
-use Rattle.words.specs.Bytes.{bytesOf}
+use Rattle.words.specs.Bytes.{numberLength, bytesOf}
 use Rattle.words.proofs.put.Statement.{statement}
 use Rattle.words.proofs.put.Tie as tie
 
 abbrev Inv-loop : tie.InvT-loop
 Inv-loop bytes₀ at n left₀ k₀ bytes left k =
-    (k ≤ 8) × (length bytes ≡ length bytes₀) × (sets bytes (at + k) (bytesOf (8 - k) left) ≡ sets bytes₀ at (bytesOf 8 n))
+    (k ≤ numberLength) × (length bytes ≡ length bytes₀) × (sets bytes (at + k) (bytesOf (numberLength - k) left) ≡ sets bytes₀ at (bytesOf numberLength n))
 
 abbrev μ-loop : tie.MeasureT-loop
-μ-loop bytes₀ at n left₀ k₀ bytes left k = 8 - k
+μ-loop bytes₀ at n left₀ k₀ bytes left k = numberLength - k
 
 loop-holds : tie.Need-loop-holds Inv-loop μ-loop
 loop-holds c =
@@ -40,7 +40,7 @@ loop-again : tie.Need-loop-again Inv-loop μ-loop
 loop-again c =
     let at = c .before .before .loop in
     let next : c .before .before .before .before .args .at + (at .k + 1) ≡ suc (c .before .before .before .before .args .at + at .k) = omega arith in
-    let rest : 8 - at .k ≡ suc (8 - (at .k + 1)) = omega arith in
+    let rest : numberLength - at .k ≡ suc (numberLength - (at .k + 1)) = omega arith in
     (omega arith, simp length-set (at .inv .1), rw (next, c .lowest .ensures) (rw rest at (at .inv .2)))
 
 same-length : tie.Need-same-length Inv-loop μ-loop
@@ -48,7 +48,7 @@ same-length c = search needs
 
 returns : tie.Need-returns Inv-loop μ-loop
 returns c =
-    let none : 8 - c .before .loop .k ≡ 0 = omega arith in
+    let none : numberLength - c .before .loop .k ≡ 0 = omega arith in
     rw none at (c .before .loop .inv .2)
 
 pub put-spec : {M : Type 1} → statement M

@@ -5,6 +5,7 @@ use mathlib.Core.Path.{ap, _∙_}
 use mathlib.Core.List.{List}
 use lib.ListN.{length}
 use borrow.Rule.Slice.PartMut.{putMid}
+use Rattle.protocol.specs.Report.{entryLength}
 use Rattle.journal.proofs.Packing.{cleared}
 use Rattle.journal.proofs.log.clear_behind.Statement.{statement}
 use Rattle.journal.proofs.log.clear_behind.Tie as tie
@@ -30,8 +31,8 @@ same-length c = search needs
 returns : tie.Need-returns
 returns c =
     let a = c .before .before .before .before .before .args in
-    ap (λ (l : List ℕ). putMid (8 * a .records) (length (a .log .now) - 8 * a .records) (a .log .now) l) (c .before .before .clear .ensures)
-    ∙ cleared (a .log .now) (8 * a .records) (c .before .before .before .before .before .pre)
+    ap (λ (l : List ℕ). putMid (entryLength * a .records) (length (a .log .now) - entryLength * a .records) (a .log .now) l) (c .before .before .clear .ensures)
+    ∙ cleared (a .log .now) (entryLength * a .records) (c .before .before .before .before .before .pre)
 
 pub clear-behind-spec : {M : Type 1} → statement M
 clear-behind-spec =

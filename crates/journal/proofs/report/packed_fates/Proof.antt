@@ -4,7 +4,7 @@ use Prim.Native.Nat.{suc, _-_, _^_, _<_, _≤_}
 use native.Mathlib.Nat.{pow-succ'}
 use native.Mathlib.Omega.{arith}
 use mathlib.Core.Path.{_≡_, refl}
-use Rattle.protocol.specs.Format.{countFrom}
+use Rattle.protocol.specs.Format.{workersLimit, countFrom}
 use Rattle.words.specs.Bytes.{bytesOf}
 use Rattle.journal.specs.Bytes.{fatesFrom}
 use Rattle.journal.proofs.Packing.{fates-more, bytes-small}
@@ -12,7 +12,7 @@ use Rattle.journal.proofs.report.packed_fates.Statement.{statement}
 use Rattle.journal.proofs.report.packed_fates.Tie as tie
 
 abbrev Inv-loop : tie.InvT-loop
-Inv-loop fates workers packed₀ w₀ packed w = (w ≤ 8) × (packed < 256 ^ (8 - w)) × (bytesOf (8 - w) packed ≡ fatesFrom workers fates (8 - w) w)
+Inv-loop fates workers packed₀ w₀ packed w = (w ≤ workersLimit) × (packed < 256 ^ (workersLimit - w)) × (bytesOf (workersLimit - w) packed ≡ fatesFrom workers fates (workersLimit - w) w)
 
 abbrev μ-loop : tie.MeasureT-loop
 μ-loop fates workers packed₀ w₀ packed w = w
@@ -40,7 +40,7 @@ cast-packed : tie.Need-cast-packed Inv-loop μ-loop
 cast-packed c = search needs
 
 room : (c : tie.After-fate-byte Inv-loop μ-loop) → c .before .before .before .loop .packed < 72057594037927936
-room c = let at = c .before .before .before .loop in omega (arith, at .inv .1, bytes-small (8 - at .w) (omega arith))
+room c = let at = c .before .before .before .loop in omega (arith, at .inv .1, bytes-small (workersLimit - at .w) (omega arith))
 
 mul-packed : tie.Need-mul-packed Inv-loop μ-loop
 mul-packed c = omega (arith, room c)
@@ -55,11 +55,11 @@ loop-again : tie.Need-loop-again Inv-loop μ-loop
 loop-again c =
     let at = c .before .before .before .loop in
     let a = c .before .before .before .before .args in
-    let more : 8 - (at .w - 1) ≡ suc (8 - at .w) = omega arith in
+    let more : workersLimit - (at .w - 1) ≡ suc (workersLimit - at .w) = omega arith in
     let back : suc (at .w - 1) ≡ at .w = omega arith in (
       omega arith,
-      rw more (omega (arith, pow-succ' 256 (8 - at .w), at .inv .1)),
-      rw more (fates-more (a .workers) (a .fates .now) (8 - at .w) (at .w - 1) (at .packed) (omega arith) (c .fate-byte .ensures) (rw back (at .inv .2))),
+      rw more (omega (arith, pow-succ' 256 (workersLimit - at .w), at .inv .1)),
+      rw more (fates-more (a .workers) (a .fates .now) (workersLimit - at .w) (at .w - 1) (at .packed) (omega arith) (c .fate-byte .ensures) (rw back (at .inv .2))),
     )
 
 returns : tie.Need-returns Inv-loop μ-loop

@@ -6,6 +6,7 @@ use Prim.Native.Nat.{ℕ, suc, _+_, _-_, _*_, _≤_}
 use mathlib.Core.Path.{_≡_, refl, ap, _∙_}
 use mathlib.Core.List.{List}
 use lib.ListN.{getD}
+use Rattle.protocol.specs.Calls.{memoryLength}
 use Rattle.vectors.specs.Sum.{weighed}
 use Rattle.vectors.proofs.memory.memory_sum.Statement.{statement}
 use Rattle.vectors.proofs.memory.memory_sum.Tie as tie
@@ -15,10 +16,10 @@ unfolding weighed
 next-byte memory a = let next : a + 1 ≡ suc a = omega arith in ap (weighed memory) next
 
 abbrev Inv-loop : tie.InvT-loop
-Inv-loop memory sum₀ address₀ sum address = (address ≤ 2048) × (sum ≤ 522240 * address) × (sum ≡ weighed memory address)
+Inv-loop memory sum₀ address₀ sum address = (address ≤ memoryLength) × (sum ≤ 522240 * address) × (sum ≡ weighed memory address)
 
 abbrev μ-loop : tie.MeasureT-loop
-μ-loop memory sum₀ address₀ sum address = 2048 - address
+μ-loop memory sum₀ address₀ sum address = memoryLength - address
 
 loop-holds : tie.Need-loop-holds Inv-loop μ-loop
 unfolding weighed
@@ -35,7 +36,7 @@ wide-requires c κs = search needs
 
 -- what one byte adds
 added : (c : tie.After-wide Inv-loop μ-loop) → (c .before .before .before .loop .address + 1) * c .wide .result ≤ 522240
-added c = mul-le-mul {n₂ = 2048} {m₂ = 255} (omega (arith, c .before .before .loop-test .taken)) (omega (arith, c .wide .ensures .1))
+added c = mul-le-mul {n₂ = memoryLength} {m₂ = 255} (omega (arith, c .before .before .loop-test .taken)) (omega (arith, c .wide .ensures .1))
 
 mul-sum : tie.Need-mul-sum Inv-loop μ-loop
 mul-sum c = omega (arith, added c)
@@ -59,7 +60,7 @@ loop-again c =
 returns : tie.Need-returns Inv-loop μ-loop
 returns c =
     let at = c .before .loop in
-    let last : at .address ≡ 2048 = omega (arith, at .inv .0, c .loop-test .left) in
+    let last : at .address ≡ memoryLength = omega (arith, at .inv .0, c .loop-test .left) in
     at .inv .2 ∙ ap (weighed (c .before .before .args .memory .now)) last
 
 pub memory-sum-spec : {M : Type 1} → statement M
