@@ -172,7 +172,8 @@ module _ {r : Record} {w : ℕ} {t : Schedule} {sizes : List ℕ} {k : Kept} (h 
               over = turned;
             }
 
-        -- with the log's records counted by the mark that the writer gives
-        pub shown : Refines (workersOf plan) (move plan s w) (scheduled (d .lists) o (record { moves = t .counts .moves + 1; rounds = o .rounds; records = records′ }))
+        -- with the log's records counted by the mark that the writer gives, and the moves however the code counts them
+        pub shown : {moves′ : ℕ} → moves′ ≡ t .counts .moves + 1
+            → Refines (workersOf plan) (move plan s w) (scheduled (d .lists) o (record { moves = moves′; rounds = o .rounds; records = records′ }))
             (heldKept k w v fates′ can′ copied′ memory′ log′)
-        shown = rw counted (hold-simulates (h .here) near step done)
+        shown once = rw (once, counted) (hold-simulates (h .here) near step done)

@@ -125,6 +125,7 @@ returns c =
     (recorded .record-step .ensures .0)
     (recorded .record-step .ensures .1)
     (turned .turn-over .ensures)
+    (omega arith)
 
 pub hold-spec : {M : Type 1} → statement M
 hold-spec =
