@@ -16,8 +16,9 @@ use Rattle.protocol.specs.Steps as steps
 use Rattle.protocol.specs.Steps.{Fate, ownStep, setting, placeAs}
 use Rattle.protocol.proofs.Each.{each}
 use Rattle.worker.specs.declared.Worker.{Worker}
+use Rattle.worker.specs.declared.Synchronised.{Synchronised}
 use Rattle.worker.specs.declared.Outcome.the-variants.{Private, Stores}
-use Rattle.worker.specs.Private.{registersOf, viewed, Replaced, ownOf, resultOf, skipOf, OwnStepping, OwnStepped}
+use Rattle.worker.specs.Private.{registersOf, viewed, heldAs, Replaced, ownOf, resultOf, skipOf, OwnStepping, OwnStepped}
 
 -- the step of a record of the plan file
 pub step-own : (r : Record) → 16 ≤ r .op → r .op ≤ 22 → stepOf r ≡ own (ownOf (r .op) (r .register) (r .number))
@@ -114,3 +115,9 @@ module _ (v : Worker) (op register number loaded : ℕ) (ready : OwnStepping v o
         step = λ memory arrived copies fate read.
             rw (w .place, w .held, w .registers, e, holds) (set-step v register number memory arrived copies fate op loaded (ready .least) h n read);
       }
+
+-- a worker that is one place on, with so many locks held, and the step's outcome
+pub one-on : (v : Worker) (held outcome : ℕ) {place : ℕ} → place ≡ v .place + 1
+    → _≡_ {A = Synchronised} (record { worker = record { place = place; held = held; registers = v .registers }; outcome = outcome })
+    (record { worker = heldAs v held; outcome = outcome })
+one-on v held outcome e = rw e
