@@ -4,9 +4,10 @@ ghost use mathlib.Core.Path.{_≡_};
 ghost use Rattle.protocol.specs.Format.{table};
 ghost use Rattle.format.specs.Table.{limits, placeIn};
 
-// An op, the largest register, and the smallest and the largest number.
+// An op, the largest register, and the smallest and the largest number. All are of one width: with padding between them the rows are made part
+// by part.
 pub struct Row {
-    pub op: u8,
+    pub op: u16,
     pub registers: u16,
     pub least: u16,
     pub most: u16,
@@ -19,85 +20,85 @@ const FIRST_SYNC: usize = 7;
 
 const ROWS: [Row; ROW_COUNT] = [
     Row {
-        op: ops::SET,
+        op: ops::SET as u16,
         registers: 3,
         least: 0,
         most: 65535,
     },
     Row {
-        op: ops::LOAD,
+        op: ops::LOAD as u16,
         registers: 3,
         least: 0,
         most: 2046,
     },
     Row {
-        op: ops::STORE,
+        op: ops::STORE as u16,
         registers: 3,
         least: 0,
         most: 2046,
     },
     Row {
-        op: ops::ADD,
+        op: ops::ADD as u16,
         registers: 3,
         least: 0,
         most: 3,
     },
     Row {
-        op: ops::SUBTRACT,
+        op: ops::SUBTRACT as u16,
         registers: 3,
         least: 0,
         most: 3,
     },
     Row {
-        op: ops::SKIP_ZERO,
+        op: ops::SKIP_ZERO as u16,
         registers: 3,
         least: 1,
         most: 127,
     },
     Row {
-        op: ops::SKIP_NONZERO,
+        op: ops::SKIP_NONZERO as u16,
         registers: 3,
         least: 1,
         most: 127,
     },
     Row {
-        op: ops::LOCK,
+        op: ops::LOCK as u16,
         registers: 0,
         least: 0,
         most: 15,
     },
     Row {
-        op: ops::UNLOCK,
+        op: ops::UNLOCK as u16,
         registers: 0,
         least: 0,
         most: 15,
     },
     Row {
-        op: ops::WAIT,
+        op: ops::WAIT as u16,
         registers: 0,
         least: 0,
         most: 7,
     },
     Row {
-        op: ops::SIGNAL,
+        op: ops::SIGNAL as u16,
         registers: 0,
         least: 0,
         most: 7,
     },
     Row {
-        op: ops::BROADCAST,
+        op: ops::BROADCAST as u16,
         registers: 0,
         least: 0,
         most: 7,
     },
     Row {
-        op: ops::BARRIER,
+        op: ops::BARRIER as u16,
         registers: 0,
         least: 0,
         most: 7,
     },
     Row {
-        op: ops::EXIT,
+        op: ops::EXIT as u16,
         registers: 0,
         least: 0,
         most: 0,
