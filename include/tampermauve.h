@@ -80,6 +80,7 @@ static inline uint32_t tampermauve_index(uint32_t returned) { return returned / 
 #define TAMPERMAUVE_REGISTER_COUNT 4u  /* registers of a worker: 0 to 3 */
 #define TAMPERMAUVE_BARRIER_COUNT 8u   /* barriers: 0 to 7 */
 #define TAMPERMAUVE_SIZE_LIMIT 8u      /* the greatest size of a barrier; the least is 1 */
+#define TAMPERMAUVE_VALUE_LIMIT 65535u /* the greatest value of a set */
 #define TAMPERMAUVE_ADDRESS_LIMIT 2046u /* the greatest address of a load or store, which take two bytes */
 #define TAMPERMAUVE_LOCK_LIMIT 15u     /* the greatest number of a lock */
 #define TAMPERMAUVE_CONDITION_LIMIT 7u /* the greatest number of a condition */

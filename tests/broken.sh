@@ -133,6 +133,7 @@ conventions() {
     changed "an op that the header numbers otherwise" include/tampermauve.h 's/OP_WAIT 34u/OP_WAIT 43u/' "not the header's" make test-conventions
     changed "an op that the definitions number otherwise" crates/protocol/specs/Ops.antt 's/opWait = 34/opWait = 43/' "not the definitions'" make test-conventions
     changed "a limit that the header has otherwise" include/tampermauve.h 's/STEPS_LIMIT 128u/STEPS_LIMIT 127u/' 'a limit of the code' make test-conventions
+    changed "a limit that the definitions have otherwise" crates/protocol/specs/Format.antt 's/skipLimit = 127/skipLimit = 126/' 'a limit of the definitions' make test-conventions
 }
 
 # ---- the gate

@@ -82,16 +82,18 @@ complain "a number without a name" < <(
 complain "an op, a fate or an outcome without its name" < <(
     code $(files '*.rt') | grep -E '\bop (==|!=|<|<=|>|>=) [0-9]|[0-9] (==|!=|<|<=|>|>=) (r\.)?op\b|\bop: [0-9]|Leaves\([0-9]|outcome: [0-9]|fates\[[a-z]+\] = [0-9]')
 
-# ---- one word and one number for each op, and for each limit: in the code, the header and, for ops, the definitions
+# ---- one word and one number for each op, and for each limit of the format: in the code, the header and the definitions
 
 in_code() { sed -nE "s/^pub const ([A-Z_]+): [a-z0-9]+ = (0x[0-9A-F]+|[0-9]+);\$/$2\1 \2/p" "crates/format/src/$1.rt"; }
 in_header() { sed -nE 's/^#define TAMPERMAUVE_([A-Z_]+) (0x[0-9A-F]+|[0-9]+)u?( .*)?$/\1 \2/p' include/tampermauve.h; }
 in_definitions() { sed -nE 's/^op([A-Za-z]+) = ([0-9]+)$/\1 \2/p' crates/protocol/specs/Ops.antt | sed -E 's/([a-z])([A-Z])/\1_\2/g; s/.*/OP_\U&/'; }
+limits_defined() { sed -nE 's/^([a-zA-Z]+(Limit|Count|Length)) = ([0-9]+)$/\1 \3/p' crates/protocol/specs/Format.antt | sed -E 's/([a-z])([A-Z])/\1_\2/g; s/^[^ ]+/\U&/'; }
 ops=$(in_code ops OP_ | sort)
 [ -n "$ops" ] || echo "none in crates/format/src/ops.rt" | complain "ops"
 complain "an op of the code that is not the header's, or the other way round" < <(comm -3 <(echo "$ops") <(in_header | grep '^OP_' | sort))
 complain "an op of the code that is not the definitions', or the other way round" < <(comm -3 <(echo "$ops") <(in_definitions | sort))
 complain "a limit of the code that is not the header's" < <(comm -23 <(in_code limits '' | sort) <(in_header | sort))
+complain "a limit of the definitions that is not the code's" < <(comm -13 <(in_code limits '' | sort) <(limits_defined | sort))
 
 # ---- lines
 

@@ -7,7 +7,7 @@ use mathlib.Core.Path.{_≡_, sym, ap, _∙_, subst⁻¹}
 use mathlib.Core.List.{List, [], _∷_}
 use lib.ListN.{length, getD, length-append}
 use Rattle.protocol.specs.Ops.{opLock, opExit}
-use Rattle.protocol.specs.Format.{recordLength, workersLimit, barrierCount, stepsLimit, Plan, Step, own, sync, Sync, records, firstIn, planOf}
+use Rattle.protocol.specs.Format.{recordLength, recordsLimit, workersLimit, barrierCount, stepsLimit, Plan, Step, own, sync, Sync, records, firstIn, planOf}
 use Rattle.protocol.specs.Steps as steps
 use Rattle.protocol.specs.Steps.{stepAt}
 use Rattle.protocol.specs.Rounds.{State, workerAt, member, entryOf, apply}
@@ -123,7 +123,7 @@ module _ {file sizes firsts : List ℕ} {w : ℕ} {t : Schedule} {k : Kept} (a :
   -- what `fetch` requires
   pub fetch-fits :
       (recordLength * getD firsts (w + 1) 0 ≤ length file)
-      × (getD firsts (w + 1) 0 ≤ 1033) × (getD firsts w 0 ≤ getD firsts (w + 1) 0) × (getD (k .places) w 0 ≤ stepsLimit)
+      × (getD firsts (w + 1) 0 ≤ recordsLimit) × (getD firsts w 0 ≤ getD firsts (w + 1) 0) × (getD (k .places) w 0 ≤ stepsLimit)
   fetch-fits = let f = fetchable file (a .laid .ok) w in rw (first-right, end-right) (f .0, f .1, f .2, place-small)
 
   -- the record of the step at the worker's place

@@ -4,7 +4,7 @@ use mathlib.Core.Bool.{Bool}
 use mathlib.Core.Path.{_≡_}
 use mathlib.Core.List.{List}
 use lib.ListN.{length}
-use Rattle.protocol.specs.Format.{workersLimit, barrierCount, stepsLimit}
+use Rattle.protocol.specs.Format.{workersLimit, barrierCount, stepsLimit, lockLimit}
 use Rattle.protocol.specs.Ops.{opLock, opBarrier, opExit}
 use Rattle.protocol.specs.Rounds.{memoryAfter, copiesAfter}
 use Rattle.plan.specs.declared.decode.Record.{Record}
@@ -29,7 +29,7 @@ pub record BytesSettled (bytes : Uncommitted) (h : ℕ) (memory : List ℕ) (mar
 pub record Deciding (r : Record) (h held : ℕ) (lists : Lists) : Type 0 where
   pub least : opLock ≤ r .op
   pub most : r .op ≤ opExit
-  pub operand : r .number ≤ 15
+  pub operand : r .number ≤ lockLimit
   pub barrier : r .op ≡ opBarrier → r .number < barrierCount
   pub holder : h < workersLimit
   pub count : held ≤ stepsLimit

@@ -19,7 +19,7 @@ use writer::append_record;
 ghost use mathlib.Core.Path.{_≡_};
 ghost use Prim.Native.Nat.{_+_, _*_, _≤_, _<_};
 ghost use lib.Seq.{sets};
-ghost use Rattle.protocol.specs.Format.{workersLimit};
+ghost use Rattle.protocol.specs.Format.{workersLimit, lockLimit};
 ghost use Rattle.protocol.specs.Report.{entryLength, entryBytes};
 ghost use Rattle.journal.specs.Bytes.{entryAs};
 ghost use Rattle.writer.specs.Appended.{Appending};
@@ -83,7 +83,7 @@ fn record_step(
     records: usize,
     log: &mut [u8],
 ) -> usize
-    requires { ⌜ (h < workersLimit) × (r .number ≤ 15) × (rounds < 65535) × Appending (now log) records ⌝ }
+    requires { ⌜ (h < workersLimit) × (r .number ≤ lockLimit) × (rounds < 65535) × Appending (now log) records ⌝ }
     ensures { λ k. ⌜ (k ≡ records + 1)
         × (now (log .exit)
         ≡ sets (now (log .entry)) (entryLength * records) (entryBytes (entryAs (rounds + 1) h (r .op) (r .number) outcome))) ⌝ }

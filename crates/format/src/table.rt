@@ -1,4 +1,5 @@
 // The operand ranges: one row per op.
+use crate::limits;
 use crate::ops;
 ghost use mathlib.Core.Path.{_≡_};
 ghost use Rattle.protocol.specs.Format.{table};
@@ -18,84 +19,86 @@ pub const ROW_COUNT: usize = 14;
 // Where the rows of the ops that synchronise begin.
 const FIRST_SYNC: usize = 7;
 
+const LAST_REGISTER: u16 = limits::REGISTER_COUNT - 1;
+
 const ROWS: [Row; ROW_COUNT] = [
     Row {
         op: ops::SET as u16,
-        registers: 3,
+        registers: LAST_REGISTER,
         least: 0,
-        most: 65535,
+        most: limits::VALUE_LIMIT,
     },
     Row {
         op: ops::LOAD as u16,
-        registers: 3,
+        registers: LAST_REGISTER,
         least: 0,
-        most: 2046,
+        most: limits::ADDRESS_LIMIT,
     },
     Row {
         op: ops::STORE as u16,
-        registers: 3,
+        registers: LAST_REGISTER,
         least: 0,
-        most: 2046,
+        most: limits::ADDRESS_LIMIT,
     },
     Row {
         op: ops::ADD as u16,
-        registers: 3,
+        registers: LAST_REGISTER,
         least: 0,
-        most: 3,
+        most: LAST_REGISTER,
     },
     Row {
         op: ops::SUBTRACT as u16,
-        registers: 3,
+        registers: LAST_REGISTER,
         least: 0,
-        most: 3,
+        most: LAST_REGISTER,
     },
     Row {
         op: ops::SKIP_ZERO as u16,
-        registers: 3,
+        registers: LAST_REGISTER,
         least: 1,
-        most: 127,
+        most: limits::SKIP_LIMIT,
     },
     Row {
         op: ops::SKIP_NONZERO as u16,
-        registers: 3,
+        registers: LAST_REGISTER,
         least: 1,
-        most: 127,
+        most: limits::SKIP_LIMIT,
     },
     Row {
         op: ops::LOCK as u16,
         registers: 0,
         least: 0,
-        most: 15,
+        most: limits::LOCK_LIMIT,
     },
     Row {
         op: ops::UNLOCK as u16,
         registers: 0,
         least: 0,
-        most: 15,
+        most: limits::LOCK_LIMIT,
     },
     Row {
         op: ops::WAIT as u16,
         registers: 0,
         least: 0,
-        most: 7,
+        most: limits::CONDITION_LIMIT,
     },
     Row {
         op: ops::SIGNAL as u16,
         registers: 0,
         least: 0,
-        most: 7,
+        most: limits::CONDITION_LIMIT,
     },
     Row {
         op: ops::BROADCAST as u16,
         registers: 0,
         least: 0,
-        most: 7,
+        most: limits::CONDITION_LIMIT,
     },
     Row {
         op: ops::BARRIER as u16,
         registers: 0,
         least: 0,
-        most: 7,
+        most: limits::BARRIER_COUNT as u16 - 1,
     },
     Row {
         op: ops::EXIT as u16,

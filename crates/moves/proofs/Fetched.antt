@@ -10,11 +10,10 @@ use native.Mathlib.Decide.{decLt}
 use lib.Dec.{ltb, eqb}
 use lib.ListN.{length, getD, List·getD-eq-default}
 use borrow.Author.Tests.{lt-ltb, le-ltb, ltb-false, eq-eqb, eqb-false, not-true, not-false}
-use Rattle.protocol.specs.Calls.{addressLimit}
 use Rattle.protocol.specs.Ops.{opSet, opLoad, opStore, opAdd, opSubtract, opSkipZero, opSkipNonzero, opLock, opWait, opBarrier, opExit}
 use Rattle.protocol.specs.Format as format
 use Rattle.protocol.specs.Format.{registerCount, stepsLimit, Row, table, rowIn, rowOf, isStep, recordFrom, recordsFrom, recordCount, records, Step, sync, exit, stepOf}
-use Rattle.protocol.specs.Format.{stepsIn, sizeIn, firstIn, planOf, barrierCount, recordLength, sizeLimit}
+use Rattle.protocol.specs.Format.{stepsIn, sizeIn, firstIn, planOf, barrierCount, recordLength, sizeLimit, recordsLimit, addressLimit, lockLimit}
 use Rattle.protocol.specs.Refusals.{accepted, check, operandsOutside, anyOf}
 use Rattle.protocol.specs.Steps.{stepsOf, stepAt}
 use Rattle.protocol.proofs.Bools.{or-left, or-right, and-left}
@@ -52,7 +51,7 @@ record Ranged (x : Row) : Type 0 where
   address : opLoad ≤ x .op → x .op ≤ opStore → x .most ≤ addressLimit
   operand : opAdd ≤ x .op → x .op ≤ opSubtract → x .most < registerCount
   skip : opSkipZero ≤ x .op → x .op ≤ opSkipNonzero → (1 ≤ x .least) × (x .most < stepsLimit)
-  object : opLock ≤ x .op → x .most ≤ 15
+  object : opLock ≤ x .op → x .most ≤ lockLimit
   queue : opWait ≤ x .op → x .op ≤ opBarrier → x .most < barrierCount
   exit : x .op ≡ opExit → x .most ≡ 0
 
@@ -124,7 +123,7 @@ module _ (file : List ℕ) (ok : check file ≡ accepted) where
   a = accepted-file file ok
 
   -- what `fetch` requires
-  pub fetchable : (w : ℕ) → (recordLength * firstIn rs (suc w) ≤ length file) × (firstIn rs (suc w) ≤ 1033) × (firstIn rs w ≤ firstIn rs (suc w))
+  pub fetchable : (w : ℕ) → (recordLength * firstIn rs (suc w) ≤ length file) × (firstIn rs (suc w) ≤ recordsLimit) × (firstIn rs w ≤ firstIn rs (suc w))
   fetchable w =
       omega (arith, first-inside rs (suc w), length-records file, a .size .bytes, a .size .most, a .records .read .together w)
 

@@ -6,9 +6,8 @@ use mathlib.Core.Path.{_≡_}
 use mathlib.Core.List.{List}
 use lib.Dec.{eqb, ltb}
 use lib.ListN.{length, getD}
-use Rattle.protocol.specs.Calls.{addressLimit}
 use Rattle.protocol.specs.Ops.{opSet, opLoad, opStore, opAdd, opSubtract, opSkipZero, opSkipNonzero, opLock, opWait, opBarrier, opExit}
-use Rattle.protocol.specs.Format.{recordLength, registerCount, stepsLimit, barrierCount, sizeLimit, recordFrom, Step, stepOf}
+use Rattle.protocol.specs.Format.{recordLength, registerCount, stepsLimit, barrierCount, sizeLimit, addressLimit, lockLimit, recordFrom, Step, stepOf}
 use Rattle.protocol.specs.Steps.{Fate, ownStep}
 use Rattle.protocol.specs.Pages.{Copies, loadWord}
 use Rattle.plan.specs.Answer.{bodyOf, recordOf}
@@ -38,7 +37,7 @@ pub record InRange (sizes : List ℕ) (r : Record) : Type 0 where
   pub address : opLoad ≤ r .op → r .op ≤ opStore → r .number ≤ addressLimit
   pub operand : opAdd ≤ r .op → r .op ≤ opSubtract → r .number < registerCount
   pub skip : opSkipZero ≤ r .op → r .op ≤ opSkipNonzero → (1 ≤ r .number) × (r .number < stepsLimit)
-  pub object : opLock ≤ r .op → r .number ≤ 15
+  pub object : opLock ≤ r .op → r .number ≤ lockLimit
   pub queue : opWait ≤ r .op → r .op ≤ opBarrier → r .number < barrierCount
   pub exit : r .op ≡ opExit → r .number ≡ 0
   pub size : r .op ≡ opBarrier → (1 ≤ getD sizes (r .number) 0) × (getD sizes (r .number) 0 ≤ sizeLimit)

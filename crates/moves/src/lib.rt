@@ -11,15 +11,14 @@ use worker::Worker;
 ghost use mathlib.Core.Path.{_≡_};
 ghost use Prim.Native.Nat.{_*_, _<_, _≤_};
 ghost use lib.ListN.{length};
-ghost use Rattle.protocol.specs.Calls.{addressLimit};
 ghost use Rattle.protocol.specs.Ops.{opLoad, opStore};
-ghost use Rattle.protocol.specs.Format.{workersLimit, recordLength, stepsLimit};
+ghost use Rattle.protocol.specs.Format.{workersLimit, recordLength, recordsLimit, stepsLimit, addressLimit};
 ghost use Rattle.pages.specs.Copies.{Lent, copiesIn, WorkerHolds, slotCount};
 ghost use Rattle.moves.specs.Moves.{fetchedAs, readBy, OwnMoving, copiesLeft, OwnMoved};
 
 // The record of the step at a worker's place, whose steps are the records from `first` to before `end`.
 pub fn fetch(file: &[u8], first: usize, end: usize, place: usize) -> Record
-    requires { ⌜ (recordLength * end ≤ length (now file)) × (end ≤ 1033) × (first ≤ end) × (place ≤ stepsLimit) ⌝ }
+    requires { ⌜ (recordLength * end ≤ length (now file)) × (end ≤ recordsLimit) × (first ≤ end) × (place ≤ stepsLimit) ⌝ }
     ensures { λ r. ⌜ r ≡ fetchedAs (now (file .entry)) first end place ⌝ }
 {
     let at = first + place;

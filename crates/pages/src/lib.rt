@@ -9,8 +9,8 @@ ghost use mathlib.Core.List.{List};
 ghost use Prim.Native.Nat.{ℕ, _+_, _*_, _<_, _≤_, _/_, _%_};
 ghost use lib.ListN.{length, drop, set};
 ghost use lib.Seq.{paste};
-ghost use Rattle.protocol.specs.Format.{workersLimit};
-ghost use Rattle.protocol.specs.Calls.{memoryLength, addressLimit};
+ghost use Rattle.protocol.specs.Format.{workersLimit, addressLimit};
+ghost use Rattle.protocol.specs.Calls.{memoryLength};
 ghost use Rattle.protocol.specs.Pages.{pageSize, pageCount, page, noCopies, opened, loadByte, loadWord, storeByte, storeWord, commit};
 ghost use Rattle.pages.specs.Copies.{Lent, slotCount, slotCopy, copiesIn, anyCopied, SlotHolds, WorkerHolds, Committed};
 

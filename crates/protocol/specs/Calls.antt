@@ -14,10 +14,6 @@ use Rattle.protocol.specs.Report.{logBytes, reportBytes}
 abbrev pub memoryLength : ℕ
 memoryLength = 2048
 
--- the greatest address of a load or a store, which take two bytes
-abbrev pub addressLimit : ℕ
-addressLimit = memoryLength - 2
-
 abbrev pub logLength : ℕ
 logLength = 8256
 

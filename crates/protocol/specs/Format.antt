@@ -1,5 +1,5 @@
 -- Document 01, "Plan file": records of 7 bytes, the table of steps, and the plan that a file holds.
-use Prim.Native.Nat.{ℕ, zero, suc, _+_, _*_, _/_}
+use Prim.Native.Nat.{ℕ, zero, suc, _+_, _-_, _*_, _/_}
 use mathlib.Core.Bool.{Bool, true, false, cond, _&&_, _||_}
 use mathlib.Core.List.{List, [], _∷_, map}
 use mathlib.Core.Option.{Option, none, some}
@@ -32,6 +32,22 @@ sizeLimit = 8
 -- "Each worker has four 16-bit registers"
 abbrev pub registerCount : ℕ
 registerCount = 4
+
+-- the greatest numbers of the table: values, addresses of two bytes in the memory's 2,048, locks, conditions, and steps to skip
+abbrev pub valueLimit : ℕ
+valueLimit = 65535
+
+abbrev pub addressLimit : ℕ
+addressLimit = 2046
+
+abbrev pub lockLimit : ℕ
+lockLimit = 15
+
+abbrev pub conditionLimit : ℕ
+conditionLimit = 7
+
+abbrev pub skipLimit : ℕ
+skipLimit = 127
 
 -- "at most 128 a worker"
 abbrev pub stepsLimit : ℕ
@@ -99,26 +115,26 @@ abbrev row : ℕ → (ℕ → ℕ → Step) → ℕ → ℕ → ℕ → Row
 row o s r l m = record { op = o; step = s; registers = r; least = l; most = m }
 
 abbrev ownRow : ℕ → (ℕ → ℕ → Own) → ℕ → ℕ → Row
-ownRow o s l m = row o (λ r k. own (s r k)) 3 l m
+ownRow o s l m = row o (λ r k. own (s r k)) (registerCount - 1) l m
 
 abbrev syncRow : ℕ → (ℕ → Sync) → ℕ → Row
 syncRow o s m = row o (λ r k. sync (s k)) 0 0 m
 
 abbrev pub table : List Row
 table =
-    ownRow opSet assign 0 65535
-    ∷ ownRow opLoad load 0 2046
-    ∷ ownRow opStore store 0 2046
-    ∷ ownRow opAdd add 0 3
-    ∷ ownRow opSubtract subtract 0 3
-    ∷ ownRow opSkipZero skipZero 1 127
-    ∷ ownRow opSkipNonzero skipNonzero 1 127
-    ∷ syncRow opLock lock 15
-    ∷ syncRow opUnlock unlock 15
-    ∷ syncRow opWait wait 7
-    ∷ syncRow opSignal signal 7
-    ∷ syncRow opBroadcast broadcast 7
-    ∷ syncRow opBarrier barrier 7
+    ownRow opSet assign 0 valueLimit
+    ∷ ownRow opLoad load 0 addressLimit
+    ∷ ownRow opStore store 0 addressLimit
+    ∷ ownRow opAdd add 0 (registerCount - 1)
+    ∷ ownRow opSubtract subtract 0 (registerCount - 1)
+    ∷ ownRow opSkipZero skipZero 1 skipLimit
+    ∷ ownRow opSkipNonzero skipNonzero 1 skipLimit
+    ∷ syncRow opLock lock lockLimit
+    ∷ syncRow opUnlock unlock lockLimit
+    ∷ syncRow opWait wait conditionLimit
+    ∷ syncRow opSignal signal conditionLimit
+    ∷ syncRow opBroadcast broadcast conditionLimit
+    ∷ syncRow opBarrier barrier (barrierCount - 1)
     ∷ syncRow opExit (λ k. exit) 0
     ∷ []
 

@@ -6,7 +6,7 @@ use mathlib.Core.List.{List, []}
 use lib.Dec.{eqb}
 use lib.ListN.{length, getD, take}
 use Rattle.protocol.specs.Ops.{opLock, opSignal, opBroadcast, opBarrier, opExit}
-use Rattle.protocol.specs.Format.{workersLimit, barrierCount, stepsLimit, Plan}
+use Rattle.protocol.specs.Format.{workersLimit, barrierCount, stepsLimit, lockLimit, Plan}
 use Rattle.protocol.specs.Steps as steps
 use Rattle.protocol.specs.Steps.{onCondition, atBarrier}
 use Rattle.protocol.specs.Rounds as rounds
@@ -63,16 +63,17 @@ pub record Means (held number : ℕ) (waiting : Queue) (fates : List ℕ) (r : R
   pub same : rulingOf r ≡ is
   pub sound : Coherent held number waiting fates r
 
--- those who wait with the key as their fate's code, asked for by a barrier of this size: nobody, where all who wait are too few for it
+-- those who wait with this code as their fate, asked for by a barrier of this size: nobody, where all who wait are too few for it
 pub record Met (fates : List ℕ) (waiting : Queue) (code size : ℕ) (q : Queue) : Type 0 where
   pub good : Good q
   pub early : length (listOf waiting) + 1 < size → listOf q ≡ []
   pub late : size ≤ length (listOf waiting) + 1 → listOf q ≡ found fates (listOf waiting) code
 
+-- what a ruling is asked for: of all numbers that a synchronising step may have a lock's are the greatest
 pub record Asking (op number held : ℕ) (waiting : Queue) : Type 0 where
   pub least : opLock ≤ op
   pub most : op ≤ opExit
-  pub operand : number ≤ 15
+  pub operand : number ≤ lockLimit
   pub barrier : op ≡ opBarrier → number < barrierCount
   pub count : held ≤ stepsLimit
   pub good : Good waiting

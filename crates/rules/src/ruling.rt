@@ -9,7 +9,7 @@ use format::ops;
 use queue::Queue;
 ghost use mathlib.Core.List.{List};
 ghost use Prim.Native.Nat.{ℕ, _≤_};
-ghost use Rattle.protocol.specs.Format.{workersLimit, stepsLimit};
+ghost use Rattle.protocol.specs.Format.{workersLimit, stepsLimit, lockLimit};
 ghost use Rattle.protocol.specs.Rounds.{failure, lockRule, unlockRule, waitRule, signalRule, barrierRule, exitRule};
 ghost use Rattle.queue.specs.List.{listOf, Good, Below};
 ghost use Rattle.queue.specs.declared.Queue.{Queue};
@@ -120,7 +120,7 @@ fn unlock(held: u64) -> Ruling
 }
 
 fn wait(condition: u64, count: u64) -> Ruling
-    requires { ⌜ condition ≤ 15 ⌝ }
+    requires { ⌜ condition ≤ lockLimit ⌝ }
     ensures { λ r. ⌜ ((number : ℕ) (waiting : Queue) (fates : List ℕ) → Means count number waiting fates r (waitRule condition count)) ⌝ }
 {
     if count == 0 {
@@ -140,7 +140,7 @@ fn wait(condition: u64, count: u64) -> Ruling
 
 // Signal and broadcast.
 fn signal(condition: u64, held: u64, waiting: Queue, fates: &[u64; WORKERS_LIMIT]) -> Ruling
-    requires { ⌜ (condition ≤ 15) × Good waiting × Below workersLimit (listOf waiting) ⌝ }
+    requires { ⌜ (condition ≤ lockLimit) × Good waiting × Below workersLimit (listOf waiting) ⌝ }
     ensures { λ r. ⌜ Means held condition waiting (now (fates .entry)) r (signalRule (found (now (fates .entry)) (listOf waiting) (conditionCode condition)) held) ⌝ }
 {
     let goes = gives_at_zero(held);
@@ -169,7 +169,7 @@ fn signal(condition: u64, held: u64, waiting: Queue, fates: &[u64; WORKERS_LIMIT
 
 // Those who wait at barrier b; nobody, where all who wait are too few for it.
 fn met(b: u64, size: u8, waiting: Queue, fates: &[u64; WORKERS_LIMIT]) -> Queue
-    requires { ⌜ (b ≤ 15) × Good waiting × Below workersLimit (listOf waiting) ⌝ }
+    requires { ⌜ (b ≤ lockLimit) × Good waiting × Below workersLimit (listOf waiting) ⌝ }
     ensures { λ q. ⌜ Met (now (fates .entry)) waiting (barrierCode b) size q ⌝ }
 {
     if waiting.count() + 1 < size as u64 {
@@ -179,7 +179,7 @@ fn met(b: u64, size: u8, waiting: Queue, fates: &[u64; WORKERS_LIMIT]) -> Queue
 }
 
 fn barrier(b: u64, size: u8, held: u64, waiting: Queue, fates: &[u64; WORKERS_LIMIT]) -> Ruling
-    requires { ⌜ (b ≤ 15) × Good waiting × Below workersLimit (listOf waiting) ⌝ }
+    requires { ⌜ (b ≤ lockLimit) × Good waiting × Below workersLimit (listOf waiting) ⌝ }
     ensures { λ r. ⌜ Means held b waiting (now (fates .entry)) r (barrierRule b size (found (now (fates .entry)) (listOf waiting) (barrierCode b)) held) ⌝ }
 {
     if held != 0 {
