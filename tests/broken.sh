@@ -128,6 +128,7 @@ conventions() {
     changed "specs that import a proof" crates/engine/specs/Moving.antt '2i use Rattle.protocol.proofs.Sound.{Sound}' 'imports a proof' make test-conventions
     changed "a name for two things" crates/rules/specs/Fates.antt '$a abbrev pub kept : ℕ\nkept = 0' 'stands for two things: kept' make test-conventions
     changed "a type of another's name" crates/rules/specs/Fates.antt 's/record Freeing/record Syncing/' 'is two types: Syncing' make test-conventions
+    changed "a type of the code with a definition's name" crates/token/src/lib.rt 's/^pub struct Round /pub struct State /' 'another one in specs or proofs: State' make test-conventions
     changed "a number without a name" crates/plan/src/check.rt 's/FILE_LIMIT < bytes/7231 < bytes/' 'a number without a name' make test-conventions
     changed "an op without its name" crates/worker/src/lib.rt 's/if op == ops::LOAD/if op == 2/' 'an op, a fate or an outcome without its name' make test-conventions
     changed "an op that the header numbers otherwise" include/tampermauve.h 's/OP_WAIT 34u/OP_WAIT 43u/' "not the header's" make test-conventions

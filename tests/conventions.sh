@@ -1,7 +1,7 @@
 #!/usr/bin/env bash
 # Holds the crates to what docs/PROOFS.md says of names and imports, and the code to its named numbers:
 #   - no file of specs/ and no contract imports a proof: what a reader must believe is closed under imports;
-#   - no name stands for two things: a definition in the specs, a type in specs and proofs;
+#   - no name stands for two things: a definition in the specs, a type in specs and proofs, a type of the code but for those that are its form of a definition's;
 #   - no number from 3 up stands in the code outside of a constant, a contract or the one match that numbers the refusals, whose names are the
 #     enum's, but for those of `meant` below, each with its reason; ops, fates and outcomes that are 0, 1 or 2 have their names too;
 #   - an op has one number and one word in the code, the definitions and the header, and so have the limits of the format;
@@ -39,6 +39,13 @@ declared() { # WHAT FILE...: the names that stand in more than one file
 }
 complain "stands for two things" < <(declared 0 $(files '*.antt' | grep /specs/))
 complain "is two types" < <(declared 1 $(files '*.antt'))
+
+# Types of the code whose name a type of the definitions has: it is the code's form of that thing.
+forms='Goes Record Refusal Row Ruling Uncommitted Verdict Worker'
+in_rattle() { sed -nE 's/^(pub )?(struct|enum) ([A-Za-z]+).*/\3/p' $(files '*.rt') | sort; }
+types() { sed -nE 's/^(pub )?(record|data) ([^ ]+).*/\3/p' $(files '*.antt') | sort -u; }
+complain "is two types of the code" < <(in_rattle | uniq -d)
+complain "is a type of the code, and another one in specs or proofs" < <(comm -12 <(in_rattle | sort -u) <(types) | comm -23 - <(tr ' ' '\n' <<< "$forms"))
 
 # ---- numbers
 

@@ -8,7 +8,7 @@ use mathlib.Core.List.{List, _∷_}
 use lib.ListN.{length}
 use borrow.Author.Tests.{eq-eqb}
 use Rattle.protocol.specs.Format.{workersLimit, Step, sync, Sync, Plan}
-use Rattle.protocol.specs.Steps.{Queue, waiting, stepAt}
+use Rattle.protocol.specs.Steps.{QueueName, waiting, stepAt}
 use Rattle.protocol.specs.Rounds.{State, workerAt, queueOf, Ruling, ruleOf, apply, syncMove, member}
 use Rattle.protocol.specs.Turns.{workersOf, allArrived, can, behind, closed, moveBy, move}
 use Rattle.protocol.specs.Demands.{occurs}
@@ -121,7 +121,7 @@ module _ {plan : Plan} {s : State} {t : Schedule} {k : Kept} (sound : Sound plan
   rounds-fit = omega (arith, shows .rounds, bounded plan s sound i .rounds, bounded plan s sound i .movesFit)
 
   -- the queue of a condition or a barrier, by the codes
-  pub queue-listed : (q : Queue) → found (k .fates) (listOf (t .lists .waiting)) (fateCode (waiting q)) ≡ queueOf s q
+  pub queue-listed : (q : QueueName) → found (k .fates) (listOf (t .lists .waiting)) (fateCode (waiting q)) ≡ queueOf s q
   queue-listed q =
       ap (λ (ws : List ℕ). found (k .fates) ws (fateCode (waiting q))) (shows .lists .waiting .list)
       ∙ queue-coded s (k .fates) q (λ u m. shows .lists .fates u (waiting-known plan s (i .core) u m))

@@ -12,7 +12,7 @@ use Rattle.protocol.specs.Refusals.{Verdict, accepted, refused, codeOf, check, 
 use Rattle.protocol.specs.Turns.{workersOf}
 use Rattle.protocol.specs.Report.{underWay, endNumber}
 use Rattle.protocol.specs.RoundRun.{moveLimit, roundRun}
-use Rattle.protocol.specs.Calls.{Buffers, Outcome, buffersOf, checkCode, memoryLength, logLength, reportLength, workLength, turnsLimit, misfit, namesNobody, verdictBy, run}
+use Rattle.protocol.specs.Calls.{Buffers, Reply, buffersOf, checkCode, memoryLength, logLength, reportLength, workLength, turnsLimit, misfit, namesNobody, verdictBy, run}
 use Rattle.protocol.specs.Listing.{cycles, listedTurns}
 use Rattle.protocol.specs.Demands.{Whole, Cycles, done, cycle}
 use Rattle.protocol.proofs.Lists.{length-countFrom}
@@ -99,7 +99,7 @@ ran-to-end file turns before after r ran feeds =
   where
     code : r ≡ checkCode file
     code =
-        ap (λ (o : Outcome). o .returned) (ran .same) ∙ returned-by-file file turns before feeds
+        ap (λ (o : Reply). o .returned) (ran .same) ∙ returned-by-file file turns before feeds
 
     ends : r ≡ 0 → getD (after .report) reportEnd 0 ≡ endNumber underWay → ⊥
     ends z =

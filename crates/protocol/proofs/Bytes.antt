@@ -10,7 +10,7 @@ use Rattle.protocol.specs.Refusals.{Verdict, accepted}
 use Rattle.protocol.specs.Rounds.{State}
 use Rattle.protocol.specs.Turns.{ended}
 use Rattle.protocol.specs.Report.{finished, stuck, underWay, allLeft, endOf, endNumber, reportBytes}
-use Rattle.protocol.specs.Calls.{Buffers, buffersOf, lentLog, playedFrom, outcomeOf, runVerdict, run}
+use Rattle.protocol.specs.Calls.{Buffers, buffersOf, lentLog, playedFrom, replyOf, runVerdict, run}
 use Rattle.protocol.specs.Demands.{Demand3, Demand3Bytes}
 use Rattle.protocol.proofs.Sound.{Sound}
 use Rattle.protocol.proofs.Accepted.{sound-file}
@@ -65,7 +65,7 @@ pub demand3-bytes : (file turns : List ℕ) (b : Buffers) → runVerdict file tu
     → Demand3Bytes (planOf file) (b .memory) turns (run file turns b .buffers)
 unfolding run
 demand3-bytes file turns b ok =
-    subst⁻¹ (λ (v : Verdict). Demand3Bytes plan (b .memory) turns (outcomeOf v (playedFrom plan (b .memory) turns) b .buffers)) ok
+    subst⁻¹ (λ (v : Verdict). Demand3Bytes plan (b .memory) turns (replyOf v (playedFrom plan (b .memory) turns) b .buffers)) ok
     (left-bytes plan (sound-file file (run-file file turns b ok)) (b .memory) turns)
   where
     plan : Plan

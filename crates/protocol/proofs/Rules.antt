@@ -7,7 +7,7 @@ use mathlib.Core.List.{List, [], _∷_}
 use lib.Dec.{eqb, ltb}
 use lib.ListN.{length, getD}
 use Rattle.protocol.specs.Format.{Sync, lock, unlock, wait, signal, broadcast, barrier, exit, sync, Plan}
-use Rattle.protocol.specs.Steps.{Queue, onCondition, atBarrier, Fate, going, exited, failed, waiting, stepsOf, stepAt}
+use Rattle.protocol.specs.Steps.{QueueName, onCondition, atBarrier, Fate, going, exited, failed, waiting, stepsOf, stepAt}
 use Rattle.protocol.specs.Rounds.{State, workerAt, waitsOn, keep, queueOf, Uncommitted, committed, lost, Goes, keeps, gives, leaves, ruling, failure, givesAtZero}
 use Rattle.protocol.specs.Rounds.{commitsAtZero, lockRule, unlockRule, waitRule, signalRule, barrierRule, exitRule, ruleOf, fateAfter, hasArrived}
 use Rattle.protocol.specs.Demands.{occurs}
@@ -18,7 +18,7 @@ use Rattle.protocol.proofs.Rulings.{Leaving, Lawful}
 
 -- the queue of a condition or a barrier is a part of the waiting list, and all in it have arrived as it asks
 
-queue-counts : (s : State) (q : Queue) (w : ℕ) → occurs w (queueOf s q) ≤ occurs w (s .waiting)
+queue-counts : (s : State) (q : QueueName) (w : ℕ) → occurs w (queueOf s q) ≤ occurs w (s .waiting)
 unfolding queueOf
 queue-counts s q w = go (waitsOn q (workerAt s w .fate)) refl
   where
@@ -26,7 +26,7 @@ queue-counts s q w = go (waitsOn q (workerAt s w .fate)) refl
     go true p = omega (arith, occurs-kept (λ w. waitsOn q (workerAt s w .fate)) w (s .waiting) p)
     go false p = omega (arith, occurs-dropped (λ w. waitsOn q (workerAt s w .fate)) w (s .waiting) p)
 
-queue-waits : (s : State) (q : Queue) (w : ℕ) → 0 < occurs w (queueOf s q) → waitsOn q (workerAt s w .fate) ≡ true
+queue-waits : (s : State) (q : QueueName) (w : ℕ) → 0 < occurs w (queueOf s q) → waitsOn q (workerAt s w .fate) ≡ true
 unfolding queueOf
 queue-waits s q w l = go (waitsOn q (workerAt s w .fate)) refl
   where
@@ -34,13 +34,13 @@ queue-waits s q w l = go (waitsOn q (workerAt s w .fate)) refl
     go true p = refl
     go false p = absurd (omega (arith, occurs-dropped (λ w. waitsOn q (workerAt s w .fate)) w (s .waiting) p))
 
-waits-runs : (q : Queue) (f : Fate) → waitsOn q f ≡ true → runs f ≡ 0
+waits-runs : (q : QueueName) (f : Fate) → waitsOn q f ≡ true → runs f ≡ 0
 waits-runs q going e = clash e
 waits-runs q exited e = refl
 waits-runs q failed e = refl
 waits-runs q (waiting p) e = refl
 
-waits-arrived : (q : Queue) (f : Fate) → waitsOn q f ≡ true → hasArrived f ≡ hasArrived (waiting q)
+waits-arrived : (q : QueueName) (f : Fate) → waitsOn q f ≡ true → hasArrived f ≡ hasArrived (waiting q)
 waits-arrived q going e = clash e
 waits-arrived q exited e = clash e
 waits-arrived q failed e = clash e
@@ -49,7 +49,7 @@ waits-arrived (onCondition c) (waiting (atBarrier d)) e = clash e
 waits-arrived (atBarrier c) (waiting (onCondition d)) e = clash e
 waits-arrived (atBarrier c) (waiting (atBarrier d)) e = refl
 
-pub queue-arrived : (plan : Plan) (s : State) (q : Queue) (w : ℕ) → Core plan s → 0 < occurs w (queueOf s q)
+pub queue-arrived : (plan : Plan) (s : State) (q : QueueName) (w : ℕ) → Core plan s → 0 < occurs w (queueOf s q)
     → workerAt s w .arrived ≡ hasArrived (waiting q)
 queue-arrived plan s q w c l =
     let e : waitsOn q (workerAt s w .fate) ≡ true = queue-waits s q w l in

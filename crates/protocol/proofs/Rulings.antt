@@ -134,13 +134,13 @@ nextAfter r h next = next ++ (r .joins ++ joinsNext (r .goes) h)
 abbrev waitingAfter : Ruling → ℕ → List ℕ → List ℕ
 waitingAfter r h waiters = without (outOf r) waiters ++ joinsWaiting (r .goes) h
 
-record Counts (w : ℕ) (r : Ruling) (h : ℕ) (rest ns waiters : List ℕ) : Type 0 where
+record OccursAfter (w : ℕ) (r : Ruling) (h : ℕ) (rest ns waiters : List ℕ) : Type 0 where
   list : occurs w (listAfter r h rest) ≡ occurs w (staysIn (r .goes) h) + (occurs w (r .wakes) + occurs w rest)
   next : occurs w (nextAfter r h ns) ≡ occurs w ns + (occurs w (r .joins) + occurs w (joinsNext (r .goes) h))
   wait : occurs w (waitingAfter r h waiters) ≡ occurs w (without (outOf r) waiters) + occurs w (joinsWaiting (r .goes) h)
   out : occurs w (outOf r) ≡ occurs w (r .wakes) + occurs w (r .joins)
 
-counted : (w : ℕ) (r : Ruling) (h : ℕ) (rest ns waiters : List ℕ) → Counts w r h rest ns waiters
+counted : (w : ℕ) (r : Ruling) (h : ℕ) (rest ns waiters : List ℕ) → OccursAfter w r h rest ns waiters
 counted w r h rest ns waiters =
     record {
       list = simp occurs-append;
@@ -175,7 +175,7 @@ module _ (plan : Plan) (s : State) (y : Sync) (r : Ruling) (h : ℕ) (rest : Lis
   others-stand : (w : ℕ) → (w ≡ h → ⊥)
       → Stands (workersOf plan) w (listAfter r h rest) (nextAfter r h (s .next)) (waitingAfter r h (s .waiting)) (getD (freed (outOf r) (s .workers)) w newWorker)
   others-stand w ne =
-      let n : Counts w r h rest (s .next) (s .waiting) = counted w r h rest (s .next) (s .waiting) in
+      let n : OccursAfter w r h rest (s .next) (s .waiting) = counted w r h rest (s .next) (s .waiting) in
       let p : Apart w h (r .goes) = apart w h (r .goes) ne in
       let l : occurs w (s .list) ≡ occurs w rest = rw e (occurs-other w h rest ne) in
       let one : runs (workerAt s w .fate) + waits (workerAt s w .fate) + gone (workerAt s w .fate) ≡ 1 = one-fate (workerAt s w .fate) in
@@ -207,7 +207,7 @@ module _ (plan : Plan) (s : State) (y : Sync) (r : Ruling) (h : ℕ) (rest : Lis
 
   holder-stands : Stands (workersOf plan) h (listAfter r h rest) (nextAfter r h (s .next)) (waitingAfter r h (s .waiting)) (afterRuling r (workerAt s h))
   holder-stands =
-      let n : Counts h r h rest (s .next) (s .waiting) = counted h r h rest (s .next) (s .waiting) in
+      let n : OccursAfter h r h rest (s .next) (s .waiting) = counted h r h rest (s .next) (s .waiting) in
       let l : occurs h (s .list) ≡ 1 + occurs h rest = rw e (occurs-same h rest) in
       let k : Listed plan s h = holder in
       let o : occurs h (outOf r) ≡ 0 = omega (arith, law .out h) in
@@ -256,13 +256,13 @@ module _ (plan : Plan) (s : State) (y : Sync) (r : Ruling) (h : ℕ) (rest : Lis
   listed-arrived : allArrived s (s .list) ≡ true → (w : ℕ) → (w ≡ h → ⊥) → 0 < occurs w (listAfter r h rest) → workerAt s w .arrived ≡ true
   listed-arrived all w ne l = go (decLt 0 (occurs w (r .wakes))) (counted w r h rest (s .next) (s .waiting)) (apart w h (r .goes) ne)
     where
-      go : Dec (0 < occurs w (r .wakes)) → Counts w r h rest (s .next) (s .waiting) → Apart w h (r .goes) → workerAt s w .arrived ≡ true
+      go : Dec (0 < occurs w (r .wakes)) → OccursAfter w r h rest (s .next) (s .waiting) → Apart w h (r .goes) → workerAt s w .arrived ≡ true
       go (yes k) n p = law .woken w k
       go (no nk) n p = all-arrived s w (s .list) all (some-member w (s .list) (rw e (omega (arith, occurs-other w h rest ne))))
 
   holder-arrived : 0 < occurs h (listAfter r h rest) → arrivedAfter (r .goes) ≡ true
   holder-arrived l =
-      let n : Counts h r h rest (s .next) (s .waiting) = counted h r h rest (s .next) (s .waiting) in
+      let n : OccursAfter h r h rest (s .next) (s .waiting) = counted h r h rest (s .next) (s .waiting) in
       let o : occurs h (s .list) ≡ 1 + occurs h rest = rw e (occurs-same h rest) in
       let k : Listed plan s h = holder in
       settled-stay (r .goes) h (omega (arith, law .out h))

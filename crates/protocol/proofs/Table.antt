@@ -6,7 +6,7 @@ use lib.ListN.{length, replicate}
 use Rattle.protocol.specs.Format.{planOf}
 use Rattle.protocol.specs.RoundRun.{roundRun}
 use Rattle.protocol.specs.Listing.{listedTurns}
-use Rattle.protocol.specs.Calls.{memoryLength, logLength, reportLength, workLength, Buffers, Outcome, buffersOf, run}
+use Rattle.protocol.specs.Calls.{memoryLength, logLength, reportLength, workLength, Buffers, Reply, buffersOf, run}
 
 -- "Turns are the listing program's, save in case 10." That has no turns.
 pub data Fed : Type 0 where
@@ -40,7 +40,7 @@ lentTo c =
     }
 
 -- What the definitions yield: by turns and, where the plan runs to its end, by the round-by-round run.
-unfoldable pub yields : Case → List Outcome
+unfoldable pub yields : Case → List Reply
 yields c =
     run (c .file) (turnsOf c) (lentTo c)
     ∷ elim (c .fed) [
@@ -48,7 +48,7 @@ yields c =
       | nothing ↦ []
     ]
 
-unfoldable pub expected : Case → Outcome
+unfoldable pub expected : Case → Reply
 expected c =
     record {
       returned = 0;
@@ -56,7 +56,7 @@ expected c =
           record { memory = padded memoryLength (c .memory); log = padded logLength (c .log); report = c .report; work = replicate workLength 0 };
     }
 
-unfoldable pub expects : Case → List Outcome
+unfoldable pub expects : Case → List Reply
 expects c = expected c ∷ elim (c .fed) [ listing ↦ expected c ∷ [] | nothing ↦ [] ]
 
 -- a record of a plan file

@@ -33,7 +33,7 @@ pub record Buffers : Type 0 where
   pub work : List ℕ
 
 -- what a call returns, and the buffers as it leaves them
-pub record Outcome : Type 0 where
+pub record Reply : Type 0 where
   pub returned : ℕ
   pub buffers : Buffers
 
@@ -79,9 +79,9 @@ abbrev pub playedFrom : Plan → List ℕ → List ℕ → State
 playedFrom plan memory turns = play plan (start plan memory) turns
 
 -- "A refusal returns its number and a record index ..; no lent byte changes."
-abbrev pub outcomeOf : Verdict → State → Buffers → Outcome
-outcomeOf accepted s b = record { returned = 0; buffers = buffersOf s }
-outcomeOf (refused f i) s b = record { returned = codeOf (refused f i); buffers = b }
+abbrev pub replyOf : Verdict → State → Buffers → Reply
+replyOf accepted s b = record { returned = 0; buffers = buffersOf s }
+replyOf (refused f i) s b = record { returned = codeOf (refused f i); buffers = b }
 
-unfoldable pub run : List ℕ → List ℕ → Buffers → Outcome
-run file turns b = outcomeOf (runVerdict file turns b) (playedFrom (planOf file) (b .memory) turns) b
+unfoldable pub run : List ℕ → List ℕ → Buffers → Reply
+run file turns b = replyOf (runVerdict file turns b) (playedFrom (planOf file) (b .memory) turns) b

@@ -7,7 +7,7 @@ use lib.ListN.{length, getD, set}
 use Rattle.protocol.specs.Ops.{opLock, opUnlock, opWait, opSignal, opBroadcast, opBarrier, opExit}
 use Rattle.protocol.specs.Format.{Own, Sync, lock, unlock, wait, signal, broadcast, barrier, exit, Plan}
 use Rattle.protocol.specs.Pages.{Copies, noCopies, commit}
-use Rattle.protocol.specs.Steps.{Queue, onCondition, atBarrier, Fate, going, exited, failed, waiting, Worker, workerOf, newWorker, fateAs, arrivedAs, ownStep}
+use Rattle.protocol.specs.Steps.{QueueName, onCondition, atBarrier, Fate, going, exited, failed, waiting, Worker, workerOf, newWorker, fateAs, arrivedAs, ownStep}
 
 -- A record of the log: "round, worker, op, number, outcome".
 pub record Entry : Type 0 where
@@ -55,20 +55,20 @@ abbrev pub arrival : ℕ → State → State
 arrival w s = workerMoved w (arrivedAs true (workerAt s w)) s
 
 -- The queue of a condition or a barrier: those who wait on it, the first to arrive first.
-abbrev pub sameQueue : Queue → Queue → Bool
+abbrev pub sameQueue : QueueName → QueueName → Bool
 sameQueue (onCondition c) (onCondition d) = eqb c d
 sameQueue (onCondition c) (atBarrier d) = false
 sameQueue (atBarrier c) (onCondition d) = false
 sameQueue (atBarrier c) (atBarrier d) = eqb c d
 
-abbrev pub waitsOn : Queue → Fate → Bool
+abbrev pub waitsOn : QueueName → Fate → Bool
 waitsOn q f = elim f [ going ↦ false | exited ↦ false | failed ↦ false | waiting p ↦ sameQueue q p ]
 
 unfoldable pub keep : (ℕ → Bool) → List ℕ → List ℕ
 keep t [] = []
 keep t (w ∷ ws) = cond (t w) (w ∷ keep t ws) (keep t ws)
 
-unfoldable pub queueOf : State → Queue → List ℕ
+unfoldable pub queueOf : State → QueueName → List ℕ
 queueOf s q = keep (λ w. waitsOn q (workerAt s w .fate)) (s .waiting)
 
 -- A rule is data: what becomes of the holder's copies, where the holder goes, and whom the step moves.
@@ -147,7 +147,7 @@ barrierRule b size queued held =
 abbrev pub exitRule : ℕ → Ruling
 exitRule held = cond (not (eqb held 0)) (failure held) (ruling committed held (leaves exited) [] [] outcomeNone)
 
-unfoldable pub ruleOf : Plan → (Queue → List ℕ) → ℕ → Sync → Ruling
+unfoldable pub ruleOf : Plan → (QueueName → List ℕ) → ℕ → Sync → Ruling
 ruleOf plan queue held (lock k) = lockRule held
 ruleOf plan queue held (unlock k) = unlockRule held
 ruleOf plan queue held (wait c) = waitRule c held
@@ -174,7 +174,7 @@ fateAfter g = elim g [ keeps ↦ going | gives ↦ going | leaves f ↦ f ]
 
 -- Whoever comes back into a running round, woken from a condition, has arrived at its fence; from a barrier a worker comes back into
 -- the next round.
-abbrev pub isCondition : Queue → Bool
+abbrev pub isCondition : QueueName → Bool
 isCondition q = elim q [ onCondition c ↦ true | atBarrier b ↦ false ]
 
 abbrev pub hasArrived : Fate → Bool

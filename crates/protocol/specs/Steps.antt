@@ -8,12 +8,12 @@ use Rattle.protocol.specs.Format.{Own, assign, load, store, add, subtrac
 use Rattle.protocol.specs.Pages.{Copies, noCopies, loadWord, storeWord}
 
 -- What a worker can be queued on: one waiting list holds them all, in order of arrival, and the fate says which queue it is.
-pub data Queue : Type 0 where
-  onCondition atBarrier : ℕ → Queue
+pub data QueueName : Type 0 where
+  onCondition atBarrier : ℕ → QueueName
 
 pub data Fate : Type 0 where
   going exited failed : Fate
-  waiting : Queue → Fate
+  waiting : QueueName → Fate
 
 -- "each worker's place, registers, count, copies and fate", and whether it has arrived at the fence of its round
 pub record Worker : Type 0 where

@@ -9,7 +9,7 @@ use mathlib.Core.Path.{_≡_, refl}
 use lib.Dec.{ltb, eqb}
 use Rattle.protocol.specs.Ops.{opLock, opExit}
 use Rattle.protocol.specs.Format.{Record, rowIn, rowOf, stepOf, sync, exit}
-use Rattle.protocol.specs.Steps.{Queue, onCondition, atBarrier, Fate, going, exited, failed, waiting}
+use Rattle.protocol.specs.Steps.{QueueName, onCondition, atBarrier, Fate, going, exited, failed, waiting}
 use Rattle.protocol.specs.Rounds.{waitsOn, isWaiting, opOf, operandOf}
 use Rattle.protocol.proofs.Each.{each}
 use Rattle.format.specs.Fates.{codeOnCondition}
@@ -28,7 +28,7 @@ fate-code (waiting (atBarrier b)) =
     rw (le-ltb (5 + 2 * b) codeOnCondition (omega arith), ne-eqb ((5 + 2 * b) % 2) 0 (λ e. omega arith), half)
 
 -- who waits, by the code
-not-waiting : (k : ℕ) → k < codeOnCondition → (q : Queue) → eqb k (fateCode (waiting q)) ≡ false
+not-waiting : (k : ℕ) → k < codeOnCondition → (q : QueueName) → eqb k (fateCode (waiting q)) ≡ false
 not-waiting k h (onCondition c) = ne-eqb k (4 + 2 * c) (λ e. omega arith)
 not-waiting k h (atBarrier b) = ne-eqb k (5 + 2 * b) (λ e. omega arith)
 
@@ -36,7 +36,7 @@ twice : (k c d : ℕ) (b : Bool) → eqb c d ≡ b → eqb (k + 2 * d) (k + 2 * 
 twice k c d true e = let h = eqb-true c d e in eq-eqb (k + 2 * d) (k + 2 * c) (omega arith)
 twice k c d false e = let h = eqb-false c d e in ne-eqb (k + 2 * d) (k + 2 * c) (λ z. h (omega arith))
 
-pub code-same : (f : Fate) (q : Queue) → eqb (fateCode f) (fateCode (waiting q)) ≡ waitsOn q f
+pub code-same : (f : Fate) (q : QueueName) → eqb (fateCode f) (fateCode (waiting q)) ≡ waitsOn q f
 code-same going q = not-waiting 0 (omega arith) q
 code-same exited q = not-waiting 1 (omega arith) q
 code-same failed q = not-waiting 2 (omega arith) q
@@ -50,7 +50,7 @@ pub code-waits : (k : ℕ) → isWaiting (fateOf k) ≡ not (ltb k codeOnConditi
 unfolding fateOf
 code-waits k = go (ltb k codeOnCondition) (eqb k 0) (eqb k 1) _
   where
-    go : (small zero one : Bool) (q : Queue) → isWaiting (cond small (cond zero going (cond one exited failed)) (waiting q)) ≡ not small
+    go : (small zero one : Bool) (q : QueueName) → isWaiting (cond small (cond zero going (cond one exited failed)) (waiting q)) ≡ not small
     go true true one q = refl
     go true false true q = refl
     go true false false q = refl

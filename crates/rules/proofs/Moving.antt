@@ -9,8 +9,7 @@ use mathlib.Core.Path.{_≡_, refl, ap, sym, _∙_}
 use mathlib.Core.List.{List, [], _∷_, _++_, append-nil}
 use lib.Dec.{eqb, ltb}
 use lib.ListN.{length, getD, take}
-use Rattle.protocol.specs.Steps as steps
-use Rattle.protocol.specs.Steps.{waiting}
+use Rattle.protocol.specs.Steps.{QueueName, waiting}
 use Rattle.protocol.specs.Rounds.{State, workerAt, waitsOn, queueOf, member, keep, without}
 use Rattle.queue.specs.declared.Queue.{Queue}
 use Rattle.queue.specs.List.{listOf, Holds, Below}
@@ -126,7 +125,7 @@ holds-more ws js h = rw (append-nil js) h
 
 -- the queue of a condition or a barrier, by the fates' codes
 pub queue-coded :
-    (s : State) (fates : List ℕ) (q : steps.Queue)
+    (s : State) (fates : List ℕ) (q : QueueName)
     → ((w : ℕ) → member w (s .waiting) ≡ true → getD fates w 0 ≡ fateCode (workerAt s w .fate))
     → found fates (s .waiting) (fateCode (waiting q)) ≡ queueOf s q
 unfolding queueOf

@@ -7,8 +7,7 @@ use lib.Dec.{eqb}
 use lib.ListN.{length, getD, take}
 use Rattle.protocol.specs.Ops.{opLock, opSignal, opBroadcast, opBarrier, opExit}
 use Rattle.protocol.specs.Format.{workersLimit, barrierCount, stepsLimit, lockLimit, Plan}
-use Rattle.protocol.specs.Steps as steps
-use Rattle.protocol.specs.Steps.{onCondition, atBarrier}
+use Rattle.protocol.specs.Steps.{QueueName, onCondition, atBarrier}
 use Rattle.protocol.specs.Rounds as rounds
 use Rattle.protocol.specs.Rounds.{keep, fateAfter, commitsAtZero, givesAtZero, ruleOf}
 use Rattle.queue.specs.declared.Queue.{Queue}
@@ -82,7 +81,7 @@ pub record Asking (op number held : ℕ) (waiting : Queue) : Type 0 where
 -- the rule of the definitions, in every plan with these sizes and every state with these queues
 pub record Ruled (op number held : ℕ) (sizes : List ℕ) (waiting : Queue) (fates : List ℕ) (r : Ruling) : Type 0 where
   pub same :
-      (plan : Plan) (queue : steps.Queue → List ℕ)
+      (plan : Plan) (queue : QueueName → List ℕ)
       → (opSignal ≤ op → op ≤ opBroadcast → found fates (listOf waiting) (conditionCode number) ≡ queue (onCondition number))
       → (op ≡ opBarrier → found fates (listOf waiting) (barrierCode number) ≡ queue (atBarrier number))
       → (op ≡ opBarrier → getD (plan .sizes) number 0 ≡ getD sizes number 0)

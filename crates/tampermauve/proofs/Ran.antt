@@ -9,7 +9,7 @@ use lib.ListN.{length}
 use Rattle.protocol.specs.Format.{planOf}
 use Rattle.protocol.specs.Refusals.{Verdict, accepted, refused, codeOf, check}
 use Rattle.protocol.specs.Turns.{workersOf}
-use Rattle.protocol.specs.Calls.{Buffers, Outcome, buffersOf, misfit, namesNobody, turnsLimit, playedFrom, outcomeOf, verdictBy, runVerdict, run}
+use Rattle.protocol.specs.Calls.{Buffers, Reply, buffersOf, misfit, namesNobody, turnsLimit, playedFrom, replyOf, verdictBy, runVerdict, run}
 use Rattle.protocol.specs.Demands.{Demand3Bytes}
 use Rattle.protocol.proofs.Bytes.{demand3-bytes}
 use Rattle.protocol.proofs.Numbered.{numbered}
@@ -38,37 +38,37 @@ module _ (file turns : List ℕ) (b : Buffers) where
   unfolding run runVerdict
   returned-code = go (runVerdict file turns b)
     where
-      go : (v : Verdict) → outcomeOf v (playedFrom (planOf file) (b .memory) turns) b .returned ≡ codeOf v
+      go : (v : Verdict) → replyOf v (playedFrom (planOf file) (b .memory) turns) b .returned ≡ codeOf v
       go accepted = refl
       go (refused f i) = refl
 
   -- demand 3 follows from what the call returns and leaves
-  pub ran : (r : ℕ) (after : Buffers) → _≡_ {A = Outcome} (record { returned = r; buffers = after }) (run file turns b) → Ran file turns b r after
+  pub ran : (r : ℕ) (after : Buffers) → _≡_ {A = Reply} (record { returned = r; buffers = after }) (run file turns b) → Ran file turns b r after
   unfolding runVerdict
   ran r after same = record { same = same; demand3 = carried }
     where
       verdict : r ≡ 0 → runVerdict file turns b ≡ accepted
-      verdict z = none-refused (runVerdict file turns b) (sym returned-code ∙ (sym (ap (λ (o : Outcome). o .returned) same) ∙ z))
+      verdict z = none-refused (runVerdict file turns b) (sym returned-code ∙ (sym (ap (λ (o : Reply). o .returned) same) ∙ z))
 
       carried : r ≡ 0 → Demand3Bytes (planOf file) (b .memory) turns after
       carried z =
-          subst⁻¹ (λ (left : Buffers). Demand3Bytes (planOf file) (b .memory) turns left) (ap (λ (o : Outcome). o .buffers) same)
+          subst⁻¹ (λ (left : Buffers). Demand3Bytes (planOf file) (b .memory) turns left) (ap (λ (o : Reply). o .buffers) same)
           (demand3-bytes file turns b (verdict z))
 
-  pub refusal : (r : ℕ) → r ≡ answerBy file turns (misfit b) → (r ≡ 0 → ⊥) → _≡_ {A = Outcome} (record { returned = r; buffers = b }) (run file turns b)
+  pub refusal : (r : ℕ) → r ≡ answerBy file turns (misfit b) → (r ≡ 0 → ⊥) → _≡_ {A = Reply} (record { returned = r; buffers = b }) (run file turns b)
   unfolding run runVerdict
   refusal r e h = go (runVerdict file turns b) e
     where
-      go : (v : Verdict) → r ≡ codeOf v → _≡_ {A = Outcome} (record { returned = r; buffers = b }) (outcomeOf v (playedFrom (planOf file) (b .memory) turns) b)
+      go : (v : Verdict) → r ≡ codeOf v → _≡_ {A = Reply} (record { returned = r; buffers = b }) (replyOf v (playedFrom (planOf file) (b .memory) turns) b)
       go accepted e = absurd (h e)
       go (refused f i) e = ap (λ (k : ℕ). record { returned = k; buffers = b }) e
 
   pub acceptance : (after : Buffers) → 0 ≡ answerBy file turns (misfit b) → after ≡ buffersOf (playedFrom (planOf file) (b .memory) turns)
-      → _≡_ {A = Outcome} (record { returned = 0; buffers = after }) (run file turns b)
+      → _≡_ {A = Reply} (record { returned = 0; buffers = after }) (run file turns b)
   unfolding run runVerdict
   acceptance after z e = go (runVerdict file turns b) (none-refused (runVerdict file turns b) (sym z))
     where
-      go : (v : Verdict) → v ≡ accepted → _≡_ {A = Outcome} (record { returned = 0; buffers = after }) (outcomeOf v (playedFrom (planOf file) (b .memory) turns) b)
+      go : (v : Verdict) → v ≡ accepted → _≡_ {A = Reply} (record { returned = 0; buffers = after }) (replyOf v (playedFrom (planOf file) (b .memory) turns) b)
       go v ok =
           ap (λ (left : Buffers). record { returned = 0; buffers = left }) e
-          ∙ ap (λ (u : Verdict). outcomeOf u (playedFrom (planOf file) (b .memory) turns) b) (sym ok)
+          ∙ ap (λ (u : Verdict). replyOf u (playedFrom (planOf file) (b .memory) turns) b) (sym ok)

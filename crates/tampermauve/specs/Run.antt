@@ -8,7 +8,7 @@ use lib.ListN.{length}
 use Rattle.protocol.specs.Format.{planOf}
 use Rattle.protocol.specs.Refusals.{codeOf, check}
 use Rattle.protocol.specs.Turns.{workersOf}
-use Rattle.protocol.specs.Calls.{Buffers, Outcome, turnsLimit, misfitBy, namesNobody, verdictBy, run}
+use Rattle.protocol.specs.Calls.{Buffers, Reply, turnsLimit, misfitBy, namesNobody, verdictBy, run}
 use Rattle.protocol.specs.Demands.{Demand3Bytes}
 use Rattle.plan.specs.Checking.{LaidOut}
 use Rattle.tampermauve.specs.declared.admit.Lengths.{Lengths}
@@ -34,5 +34,5 @@ pub record Admits (file turns : List ℕ) (l : Lengths) (a : Admitted) : Type 0 
 
 -- what is returned and left is what the definition gives; and demand 3 of the bytes that an accepted run leaves
 pub record Ran (file turns : List ℕ) (before : Buffers) (r : ℕ) (after : Buffers) : Type 0 where
-  pub same : _≡_ {A = Outcome} (record { returned = r; buffers = after }) (run file turns before)
+  pub same : _≡_ {A = Reply} (record { returned = r; buffers = after }) (run file turns before)
   pub demand3 : r ≡ 0 → Demand3Bytes (planOf file) (before .memory) turns after
