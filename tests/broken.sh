@@ -126,15 +126,19 @@ promises() {
 
 conventions() {
     changed "specs that import a proof" crates/engine/specs/Moving.antt '2i use Rattle.protocol.proofs.Sound.{Sound}' 'imports a proof' make test-conventions
+    changed "a contract that imports a proof" crates/engine/src/sync.rt '/^ghost use/i ghost use Rattle.engine.proofs.Facts.{known};' 'a contract imports a proof' make test-conventions
     changed "a name for two things" crates/rules/specs/Fates.antt '$a abbrev pub kept : ℕ\nkept = 0' 'stands for two things: kept' make test-conventions
     changed "a type of another's name" crates/rules/specs/Fates.antt 's/record Freeing/record Syncing/' 'is two types: Syncing' make test-conventions
     changed "a type of the code with a definition's name" crates/token/src/lib.rt 's/^pub struct Round /pub struct State /' 'another one in specs or proofs: State' make test-conventions
+    changed "two types of the code with one name" crates/token/src/lib.rt 's/^pub struct Round /pub struct Moved /' 'is two types of the code: Moved' make test-conventions
     changed "a number without a name" crates/plan/src/check.rt 's/FILE_LIMIT < bytes/7231 < bytes/' 'a number without a name' make test-conventions
     changed "an op without its name" crates/worker/src/lib.rt 's/if op == ops::LOAD/if op == 2/' 'an op, a fate or an outcome without its name' make test-conventions
     changed "an op that the header numbers otherwise" include/tampermauve.h 's/OP_WAIT 34u/OP_WAIT 43u/' "not the header's" make test-conventions
     changed "an op that the definitions number otherwise" crates/protocol/specs/Ops.antt 's/opWait = 34/opWait = 43/' "not the definitions'" make test-conventions
     changed "a limit that the header has otherwise" include/tampermauve.h 's/STEPS_LIMIT 128u/STEPS_LIMIT 127u/' 'a limit of the code' make test-conventions
     changed "a limit that the definitions have otherwise" crates/protocol/specs/Format.antt 's/skipLimit = 127/skipLimit = 126/' 'a limit of the definitions' make test-conventions
+    changed "ops that nobody numbers" crates/format/src/ops.rt 's/^pub const/const/' 'none in crates/format/src/ops.rt' make test-conventions
+    changed "a long line" crates/words/src/lib.rt "1s/^/\/\/ $(printf 'é%.0s' {1..200})\n/" 'above 200 characters: crates/words/src/lib.rt:1' make test-conventions
 }
 
 # ---- the gate

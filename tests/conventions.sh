@@ -96,7 +96,7 @@ in_header() { sed -nE 's/^#define TAMPERMAUVE_([A-Z_]+) (0x[0-9A-F]+|[0-9]+)u?( 
 in_definitions() { sed -nE 's/^op([A-Za-z]+) = ([0-9]+)$/\1 \2/p' crates/protocol/specs/Ops.antt | sed -E 's/([a-z])([A-Z])/\1_\2/g; s/.*/OP_\U&/'; }
 limits_defined() { sed -nE 's/^([a-zA-Z]+(Limit|Count|Length)) = ([0-9]+)$/\1 \3/p' crates/protocol/specs/Format.antt | sed -E 's/([a-z])([A-Z])/\1_\2/g; s/^[^ ]+/\U&/'; }
 ops=$(in_code ops OP_ | sort)
-[ -n "$ops" ] || echo "none in crates/format/src/ops.rt" | complain "ops"
+complain "ops" < <([ -n "$ops" ] || echo "none in crates/format/src/ops.rt")
 complain "an op of the code that is not the header's, or the other way round" < <(comm -3 <(echo "$ops") <(in_header | grep '^OP_' | sort))
 complain "an op of the code that is not the definitions', or the other way round" < <(comm -3 <(echo "$ops") <(in_definitions | sort))
 complain "a limit of the code that is not the header's" < <(comm -23 <(in_code limits '' | sort) <(in_header | sort))
