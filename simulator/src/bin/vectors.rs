@@ -12,9 +12,8 @@ use std::collections::BTreeSet;
 use std::process::ExitCode;
 use std::{env, fs};
 
-use simulator::generate::damage::{
-    barrier_damages, border_files, fault_pairs, faults, single_faults, Fault, Field,
-};
+use simulator::generate::damage::{barrier_damages, border_files, fault_pairs, single_faults};
+use simulator::generate::faults::{faults, Fault, Field};
 use simulator::generate::{damaged_files, plan, showcase, Draft, PlanKind, Rng};
 use simulator::listing::{listing_turns, play_listed};
 use simulator::{check, check_code, listing, Machine};
