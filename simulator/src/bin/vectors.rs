@@ -12,7 +12,9 @@ use std::collections::BTreeSet;
 use std::process::ExitCode;
 use std::{env, fs};
 
-use simulator::generate::damage::{barrier_damages, border_files, fault_pairs, single_faults};
+use simulator::generate::damage::{
+    barrier_damages, border_files, fault_pairs, single_faults, sleep_damages, start_damages,
+};
 use simulator::generate::faults::{faults, Fault, Field};
 use simulator::generate::{damaged_files, plan, showcase, Draft, PlanKind, Rng};
 use simulator::listing::{listing_turns, play_listed};
@@ -79,13 +81,15 @@ fn memory_sum(memory: &[u8]) -> u64 {
     bytes.zip(1..).map(|(byte, place)| place * byte).sum()
 }
 
-/// The paper's cases, the borders, runs of every kind, refused files.
+/// The paper's cases, those of its first request, the borders, runs of every
+/// kind, refused files.
 fn files(rng: &mut Rng) -> Vec<Vec<u8>> {
     let mut files = Vec::new();
     files.extend(cases());
+    files.extend(starts());
     files.extend(borders(rng));
     for kind in PlanKind::SMALL {
-        files.extend((0..14).map(|_| plan(rng, kind).file()));
+        files.extend((0..11).map(|_| plan(rng, kind).file()));
     }
     for kind in PlanKind::LONG {
         files.push(plan(rng, kind).file());
@@ -98,7 +102,8 @@ type Row<'a> = &'a [(u8, u8, u16)];
 
 /// Cases 1 to 9 in the paper's order, case 3 with its starting memory stored
 /// in front of a barrier. Then case 9 with a broadcast in place of its signal,
-/// and two waiting workers with one broadcast and with two signals.
+/// and with either outside of a lock, and two waiting workers with one broadcast
+/// and with two signals.
 fn cases() -> Vec<Vec<u8>> {
     let adds: Row = &[(17, 0, 0), (16, 1, 1), (19, 0, 1), (18, 0, 0)];
     let locked = [&[(32, 0, 0)][..], adds, &[(33, 0, 0)]].concat();
@@ -129,8 +134,66 @@ fn cases() -> Vec<Vec<u8>> {
         Draft::from_rows(pair, &[meets, meets]),
         Draft::from_rows(none, &[waits, signals]),
         Draft::from_rows(none, &[waits, broadcasts]),
+        Draft::from_rows(none, &[waits, &signals[1..2]]),
+        Draft::from_rows(none, &[waits, &broadcasts[1..2]]),
         Draft::from_rows(none, &[waits, waits, broadcasts]),
         Draft::from_rows(none, &[waits, waits, &[signals, signals].concat()]),
+    ];
+    plans.iter().map(Draft::file).collect()
+}
+
+/// Nobody is ever started; one is started twice; a started worker starts
+/// another; starts of all that do not sleep; a start in a lock, with own steps
+/// and a barrier behind it, and with a lock that commits again; an order of
+/// the next list.
+fn starts() -> Vec<Vec<u8>> {
+    let store = |value: u16| [(16, 0, value), (18, 0, 0)];
+    let (one, two) = (store(0x0107), store(0x0209));
+    let sees: Row = &[(17, 1, 0), (18, 1, 4)];
+    let locked = [
+        &[(32, 0, 3)][..],
+        &one,
+        &[(39, 0, 1), (18, 0, 2), (33, 0, 3)],
+    ]
+    .concat();
+    let fails = [
+        &one[..],
+        &[(39, 0, 1), (18, 0, 2), (32, 0, 0)],
+        &two,
+        &[(38, 0, 0)],
+    ]
+    .concat();
+    let meets = [&[(39, 0, 2)][..], &one, &[(37, 0, 0)]].concat();
+    let everybody = [0, 1, 2, 3, 4, 5, 6, 7].map(|target| (39, 0, target));
+    let others: [Row; 8] = [
+        &[(33, 0, 0)],
+        &[],
+        &[(32, 0, 0), (34, 0, 0)],
+        &[(37, 0, 0)],
+        &[(35, 0, 1)],
+        &everybody,
+        &everybody,
+        &two,
+    ];
+    let joins: [Row; 6] = [
+        &[(35, 0, 0)],
+        &[(37, 0, 0)],
+        &[(39, 0, 5), (35, 0, 0)],
+        &[(39, 0, 4), (37, 0, 0)],
+        &one,
+        &two,
+    ];
+    let of = |rows: &[Row], sleepers: &[u8]| Draft::from_rows(&[(0, 2)], rows).asleep(sleepers);
+    let plans = [
+        of(&[&one, &two], &[1]),
+        of(&[&[(39, 0, 1), (39, 0, 1)], &two], &[1]),
+        of(&[&[(39, 0, 1)], &[(39, 0, 2)], &two], &[1, 2]),
+        of(&others, &[7]),
+        of(&[&locked, sees], &[1]),
+        of(&[&fails, sees], &[1]),
+        of(&[&[(37, 0, 0)], &meets, sees], &[2]),
+        of(&[&meets, &[], sees], &[2]),
+        of(&joins, &[4, 5]),
     ];
     plans.iter().map(Draft::file).collect()
 }
@@ -160,8 +223,8 @@ fn borders(rng: &mut Rng) -> Vec<Vec<u8>> {
     files
 }
 
-/// A file for every worker, register and number, and every barrier record,
-/// that a plan with each op may not have. Last a skip too far, which the fault
+/// A file for every worker, register and number, and every barrier and sleep
+/// record, that a plan with each op may not have. Last a skip too far, which the fault
 /// behind it comes before.
 fn refused_operands() -> Vec<Vec<u8>> {
     let own: Row = &[
@@ -180,16 +243,20 @@ fn refused_operands() -> Vec<Vec<u8>> {
         (35, 0, 7),
         (36, 0, 0),
         (37, 0, 4),
+        (39, 0, 1),
         (38, 0, 0),
     ];
-    let every_op = Draft::from_rows(&[(1, 2), (4, 8)], &[own, synchronising]);
+    let sizes: [(u8, u16); 2] = [(1, 2), (4, 8)];
+    let every_op = Draft::from_rows(&sizes, &[own, synchronising, &[]]).asleep(&[1, 2]);
     let in_operand =
         |fault: &Fault| matches!(fault.field, Field::Worker | Field::Register | Field::Number);
     let all = faults(&every_op).into_iter().zip(single_faults(&every_op));
     let operands = all
         .filter(|(fault, _)| in_operand(fault))
         .map(|each| each.1);
-    let damaged = operands.chain(barrier_damages(&every_op));
+    let places = barrier_damages(&every_op).into_iter();
+    let sleepers = sleep_damages(&every_op).into_iter().chain(start_damages());
+    let damaged = operands.chain(places).chain(sleepers);
     let mut files: Vec<Vec<u8>> = damaged.map(|each| each.file).collect();
     files.push(Draft::from_rows(&[], &[&[(16, 0, 0), (21, 0, 127), (16, 4, 0)]]).file());
     files
@@ -203,8 +270,10 @@ fn refused(rng: &mut Rng) -> Vec<Vec<u8>> {
         &[
             &[(16, 0, 1), (22, 0, 1), (37, 0, 1)],
             &[(18, 3, 2_046), (32, 0, 15), (33, 0, 0), (38, 0, 0)],
+            &[(39, 0, 1)],
         ],
-    );
+    )
+    .asleep(&[1, 2]);
     let mut files: Vec<Vec<u8>> = Vec::new();
     let picked = |count: usize, from: Vec<Vec<u8>>, rng: &mut Rng| -> Vec<Vec<u8>> {
         let each = (0..count).map(|_| from[rng.below(from.len())].clone());
@@ -214,11 +283,11 @@ fn refused(rng: &mut Rng) -> Vec<Vec<u8>> {
         all.into_iter().map(|each| each.file).collect()
     };
     files.extend(refused_operands());
-    files.extend(picked(80, bytes(single_faults(&small)), rng));
-    files.extend(picked(40, bytes(fault_pairs(&small)), rng));
+    files.extend(picked(50, bytes(single_faults(&small)), rng));
+    files.extend(picked(30, bytes(fault_pairs(&small)), rng));
     let others = bytes(damaged_files(rng, 60));
     let short: Vec<Vec<u8>> = others.iter().filter(|f| f.len() < 400).cloned().collect();
-    files.extend(picked(60, short, rng));
+    files.extend(picked(40, short, rng));
     for number in [1, 8, 10] {
         let of_number = |file: &&Vec<u8>| check_code(file) % 256 == number;
         files.extend(others.iter().filter(of_number).take(4).cloned());
@@ -282,13 +351,13 @@ fn nothing_missing(files: &[Vec<u8>]) -> Result<(), String> {
     if let Some((name, _)) = counts.iter().find(|(_, count)| *count == 0) {
         return Err(format!("never came up: {name}"));
     }
-    if seen.answers != (0..=10).collect() {
+    if seen.answers != (0..=10).chain([14]).collect() {
         return Err(format!("answers {:?}", seen.answers));
     }
     if seen.ends != BTreeSet::from([1, 2]) {
         return Err(format!("ends {:?}", seen.ends));
     }
-    if seen.fates != BTreeSet::from([1, 2, 3, 4, 255]) {
+    if seen.fates != BTreeSet::from([1, 2, 3, 4, 5, 255]) {
         return Err(format!("fates {:?}", seen.fates));
     }
     let missing = WANTED.iter().find(|rule| !seen.rules.contains(rule));
@@ -296,7 +365,7 @@ fn nothing_missing(files: &[Vec<u8>]) -> Result<(), String> {
 }
 
 /// What some plan must show.
-const WANTED: [Rule; 21] = [
+const WANTED: [Rule; 25] = [
     (32, false, 1),
     (32, true, 2),
     (33, true, 0),
@@ -318,4 +387,8 @@ const WANTED: [Rule; 21] = [
     (37, true, 254),
     (38, false, 255),
     (38, true, 254),
+    (39, false, 1),
+    (39, true, 1),
+    (39, false, 253),
+    (39, true, 253),
 ];
