@@ -142,30 +142,51 @@ fn cases() -> Vec<Vec<u8>> {
     plans.iter().map(Draft::file).collect()
 }
 
+/// A plan of the first request, with a barrier of two workers.
+fn sleeping(rows: &[Row], sleepers: &[u8]) -> Draft {
+    Draft::from_rows(&[(0, 2)], rows).asleep(sleepers)
+}
+
+const ONE: Row = &[(16, 0, 0x0107), (18, 0, 0)];
+const TWO: Row = &[(16, 0, 0x0209), (18, 0, 0)];
+
 /// Nobody is ever started; one is started twice; a started worker starts
-/// another; starts of all that do not sleep; a start in a lock, with own steps
-/// and a barrier behind it, and with a lock that commits again; an order of
-/// the next list.
+/// another; a start in a lock, with own steps and a barrier behind it, and
+/// with a lock that commits again.
 fn starts() -> Vec<Vec<u8>> {
-    let store = |value: u16| [(16, 0, value), (18, 0, 0)];
-    let (one, two) = (store(0x0107), store(0x0209));
     let sees: Row = &[(17, 1, 0), (18, 1, 4)];
     let locked = [
-        &[(32, 0, 3)][..],
-        &one,
-        &[(39, 0, 1), (18, 0, 2), (33, 0, 3)],
-    ]
-    .concat();
-    let fails = [
-        &one[..],
+        &[(32, 0, 3)],
+        ONE,
+        &[(39, 0, 1), (18, 0, 2), (33, 0, 3)][..],
+    ];
+    let again = [
+        ONE,
         &[(39, 0, 1), (18, 0, 2), (32, 0, 0)],
-        &two,
+        TWO,
         &[(38, 0, 0)],
-    ]
-    .concat();
-    let meets = [&[(39, 0, 2)][..], &one, &[(37, 0, 0)]].concat();
+    ];
+    let meets = [&[(39, 0, 2)], ONE, &[(37, 0, 0)]].concat();
+    let plans = [
+        sleeping(&[ONE, TWO], &[1]),
+        sleeping(&[&[(39, 0, 1), (39, 0, 1)], TWO], &[1]),
+        sleeping(&[&[(39, 0, 1)], &[(39, 0, 2)], TWO], &[1, 2]),
+        sleeping(&[&locked.concat(), sees], &[1]),
+        sleeping(&[&again.concat(), sees], &[1]),
+        sleeping(&[&[(37, 0, 0)], &meets, sees], &[2]),
+        sleeping(&[&meets, &[], sees], &[2]),
+    ];
+    let mut files: Vec<Vec<u8>> = plans.iter().map(Draft::file).collect();
+    files.extend(starts_among_many());
+    files
+}
+
+/// Starts of one that failed, exited, waits, queues, gave up the token, is the
+/// caller or comes behind it; and those started, freed and done with the token
+/// in one list.
+fn starts_among_many() -> [Vec<u8>; 2] {
     let everybody = [0, 1, 2, 3, 4, 5, 6, 7].map(|target| (39, 0, target));
-    let others: [Row; 8] = [
+    let found: [Row; 8] = [
         &[(33, 0, 0)],
         &[],
         &[(32, 0, 0), (34, 0, 0)],
@@ -173,29 +194,19 @@ fn starts() -> Vec<Vec<u8>> {
         &[(35, 0, 1)],
         &everybody,
         &everybody,
-        &two,
+        TWO,
     ];
-    let joins: [Row; 6] = [
+    let joined: [Row; 6] = [
         &[(35, 0, 0)],
         &[(37, 0, 0)],
         &[(39, 0, 5), (35, 0, 0)],
         &[(39, 0, 4), (37, 0, 0)],
-        &one,
-        &two,
+        ONE,
+        TWO,
     ];
-    let of = |rows: &[Row], sleepers: &[u8]| Draft::from_rows(&[(0, 2)], rows).asleep(sleepers);
-    let plans = [
-        of(&[&one, &two], &[1]),
-        of(&[&[(39, 0, 1), (39, 0, 1)], &two], &[1]),
-        of(&[&[(39, 0, 1)], &[(39, 0, 2)], &two], &[1, 2]),
-        of(&others, &[7]),
-        of(&[&locked, sees], &[1]),
-        of(&[&fails, sees], &[1]),
-        of(&[&[(37, 0, 0)], &meets, sees], &[2]),
-        of(&[&meets, &[], sees], &[2]),
-        of(&joins, &[4, 5]),
-    ];
-    plans.iter().map(Draft::file).collect()
+    let found = sleeping(&found, &[7]);
+    let joined = sleeping(&joined, &[4, 5]);
+    [found.file(), joined.file()]
 }
 
 /// Case 11: what just passes and what just does not.

@@ -85,7 +85,7 @@ fn sleeping() -> Vec<Tiny> {
     ];
     let mut all = Vec::new();
     all.extend(pairs.map(|(sleepers, rows)| asleep(sleepers, &rows, 12)));
-    all.extend(triples.map(|(sleepers, rows)| asleep(sleepers, &rows, 9)));
+    all.extend(triples.map(|(sleepers, rows)| asleep(sleepers, &rows, 8)));
     all
 }
 
