@@ -500,7 +500,7 @@ impl<'a> Machine<'a> {
         let found = self.found(target);
         self.counts.limits.starts(count, found);
         self.hold.any = true;
-        if found.is_some() {
+        if self.workers[target].fate != Fate::Asleep {
             return (NOT_ASLEEP, Token::Keep);
         }
         self.hold.sleepers += 1;

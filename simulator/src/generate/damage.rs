@@ -165,6 +165,25 @@ pub fn length_damages(rng: &mut Rng, draft: &Draft) -> Vec<Damaged> {
     all
 }
 
+/// A plan with its last record a few times more. A long one comes to the
+/// greatest length of a file so, or just above it.
+pub fn lengthened(rng: &mut Rng, draft: &Draft) -> Damaged {
+    let mut file = draft.file();
+    let last = file.len() - RECORD_LENGTH..file.len();
+    for _ in 0..rng.between(1, 9) {
+        file.extend_from_within(last.clone());
+    }
+    let label = format!("lengthened to {} bytes", file.len());
+    match file.len() > 7_280 {
+        true => refused(label, file, 1, 0),
+        false => Damaged {
+            label,
+            file,
+            expected: None,
+        },
+    }
+}
+
 /// Barrier records twice, swapped, lost, behind a sleep record or a step.
 pub fn barrier_damages(draft: &Draft) -> Vec<Damaged> {
     let records = draft.records();
@@ -396,6 +415,10 @@ pub fn damaged_files(rng: &mut Rng, doubles: usize) -> Vec<Damaged> {
         let kind = rng.pick(&PlanKind::SMALL);
         let draft = plan(rng, kind);
         all.push(fuzzed(rng, &draft));
+    }
+    for kind in [PlanKind::Longest, PlanKind::FullLog] {
+        let draft = plan(rng, kind);
+        all.extend((0..4).map(|_| lengthened(rng, &draft)));
     }
     all
 }

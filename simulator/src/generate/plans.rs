@@ -34,7 +34,8 @@ pub enum PlanKind {
     Starts,
     /// The longest file: 1,040 records.
     Longest,
-    /// The longest log: 1,032 records, in as many moves as can be.
+    /// The longest log: 1,032 records; without starts, in as many moves as can
+    /// be.
     FullLog,
     /// One worker behind the other, so that rounds go far above 255.
     Relay,
