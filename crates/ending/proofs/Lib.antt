@@ -1,2 +1,2 @@
--- Whether all workers have left, one worker at a time.
-pub mod Gone
+-- Whether all workers have exited, failed or sleep, one worker at a time.
+pub mod Over

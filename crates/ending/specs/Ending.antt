@@ -9,22 +9,22 @@ use Rattle.protocol.specs.Format.{workersLimit}
 use Rattle.protocol.specs.Turns.{noneLeft}
 use Rattle.protocol.specs.Report.{underWay, finished, stuck, endNumber, entryLength}
 use Rattle.protocol.specs.Calls.{reportLength}
-use Rattle.format.specs.Fates.{codeExited, codeFailed}
+use Rattle.format.specs.Fates.{codeExited, codeAsleep}
 use Rattle.journal.specs.declared.report.Counts.{Counts}
 use Rattle.journal.specs.Bytes.{Narrowing, reportOf}
 
--- whether a code is that of exited or failed
-abbrev pub isGone : ℕ → Bool
-isGone code = not (ltb code codeExited || ltb codeFailed code)
+-- whether a code is that of exited, failed or asleep
+abbrev pub codeFinal : ℕ → Bool
+codeFinal code = not (ltb code codeExited || ltb codeAsleep code)
 
--- so many workers from w on have left
-unfoldable pub allGone : List ℕ → ℕ → ℕ → Bool
-allGone fates zero w = true
-allGone fates (suc k) w = isGone (getD fates w 0) && allGone fates k (suc w)
+-- so many workers from w on have such a code
+unfoldable pub allOver : List ℕ → ℕ → ℕ → Bool
+allOver fates zero w = true
+allOver fates (suc k) w = codeFinal (getD fates w 0) && allOver fates k (suc w)
 
 -- the end's number, by this round's list and the codes of fates
 abbrev pub endBy : List ℕ → List ℕ → ℕ → ℕ
-endBy list fates n = endNumber (cond (noneLeft list) (cond (allGone fates n 0) finished stuck) underWay)
+endBy list fates n = endNumber (cond (noneLeft list) (cond (allOver fates n 0) finished stuck) underWay)
 
 -- what the end of a run takes
 pub record Closing (c : Counts) (n : ℕ) (log report : List ℕ) : Type 0 where

@@ -10,12 +10,12 @@ ghost use mathlib.Core.Path.{_≡_};
 ghost use Prim.Native.Nat.{_≤_};
 ghost use Rattle.protocol.specs.Format.{workersLimit};
 ghost use Rattle.queue.specs.List.{listOf};
-ghost use Rattle.ending.specs.Ending.{allGone, endBy, Closing, Closed};
+ghost use Rattle.ending.specs.Ending.{allOver, endBy, Closing, Closed};
 
-// Whether each of the workers has exited or failed, by the codes of fates.
-fn all_gone(fates: &[u64; WORKERS_LIMIT], workers: u8) -> bool
+// Whether each of the workers has exited, failed or never been started, by the codes of fates.
+fn all_over(fates: &[u64; WORKERS_LIMIT], workers: u8) -> bool
     requires { ⌜ workers ≤ workersLimit ⌝ }
-    ensures { λ b. ⌜ b ≡ allGone (now (fates .entry)) workers 0 ⌝ }
+    ensures { λ b. ⌜ b ≡ allOver (now (fates .entry)) workers 0 ⌝ }
 {
     let mut w = 0;
     let n = workers as usize;
@@ -24,7 +24,7 @@ fn all_gone(fates: &[u64; WORKERS_LIMIT], workers: u8) -> bool
         if code < fates::EXITED {
             return false;
         }
-        if fates::FAILED < code {
+        if fates::ASLEEP < code {
             return false;
         }
         w += 1;
@@ -39,7 +39,7 @@ fn end_of(list: Queue, fates: &[u64; WORKERS_LIMIT], workers: u8) -> u8
     if !list.is_empty() {
         return ends::GOING;
     }
-    if all_gone(fates, workers) {
+    if all_over(fates, workers) {
         return ends::FINISHED;
     }
     ends::STUCK

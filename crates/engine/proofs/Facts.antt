@@ -2,14 +2,16 @@
 use Prim.Native.Nat.{ℕ, _+_, _<_, _≤_}
 use native.Mathlib.Decide.{decLt}
 use native.Mathlib.Omega.{arith}
-use mathlib.Core.Bool.{Bool, true}
-use mathlib.Core.Path.{_≡_, sym, ap, _∙_, subst⁻¹}
+use mathlib.Core.Bool.{Bool, true, false, cond}
+use mathlib.Core.Path.{_≡_, refl, sym, ap, _∙_, subst⁻¹}
 use mathlib.Core.List.{List, _∷_}
-use lib.ListN.{length}
-use borrow.Author.Tests.{eq-eqb}
+use lib.Dec.{eqb}
+use lib.ListN.{length, getD}
+use borrow.Author.Tests.{eq-eqb, eqb-true}
+use Rattle.protocol.specs.Ops.{opStart}
 use Rattle.protocol.specs.Format.{workersLimit, Step, sync, Sync, Plan}
 use Rattle.protocol.specs.Steps.{QueueName, waiting, stepAt}
-use Rattle.protocol.specs.Rounds.{State, workerAt, queueOf, Ruling, ruleOf, apply, syncMove, member}
+use Rattle.protocol.specs.Rounds.{State, workerAt, queueOf, fateIn, isAsleep, Ruling, ruleOf, apply, syncMove, member}
 use Rattle.protocol.specs.Turns.{workersOf, allArrived, can, behind, closed, moveBy, move}
 use Rattle.protocol.specs.Demands.{occurs}
 use Rattle.protocol.proofs.Sound.{Sound}
@@ -18,11 +20,13 @@ use Rattle.protocol.proofs.Counting.{clash, member-some, occurs-same}
 use Rattle.protocol.proofs.Fence.{Can, runsUp, holds, can-view, all-arrived}
 use Rattle.protocol.proofs.OwnMoves.{Listed, listed}
 use Rattle.protocol.proofs.Rulings.{Lawful, applied-core, applied-arrived}
-use Rattle.protocol.proofs.Rules.{rule-lawful}
-use Rattle.protocol.proofs.Bounds.{bounded, placed-none}
+use Rattle.protocol.proofs.Rules.{sleeper, waiter-awake, rule-lawful}
+use Rattle.protocol.proofs.Bounds.{bounded, placed-none, spare-bound}
 use Rattle.queue.specs.List.{listOf, Below}
 use Rattle.rules.specs.Codes.{fateCode}
-use Rattle.rules.specs.Rules.{found}
+use Rattle.format.specs.Fates.{codeAsleep}
+use Rattle.rules.specs.Rules.{found, sleepersAt, calledBy}
+use Rattle.rules.proofs.Codes.{code-asleep}
 use Rattle.rules.proofs.Moving.{queue-coded}
 use Rattle.engine.specs.Kept.{Kept}
 use Rattle.engine.specs.Refines.{awayIn, Refines}
@@ -49,7 +53,7 @@ holder s w able near = go (can-view s w able)
 
 -- the holder's step, by its rule
 abbrev pub ruleAt : Plan → State → ℕ → Sync → Ruling
-ruleAt plan s w y = ruleOf plan (queueOf s) (workerAt s w .held) y
+ruleAt plan s w y = ruleOf plan (queueOf s) (fateIn s) (workerAt s w .held) y
 
 abbrev pub applied : Plan → State → ℕ → Sync → List ℕ → State
 applied plan s w y rest = apply y (ruleAt plan s w y) w rest s
@@ -113,6 +117,44 @@ module _ {plan : Plan} {s : State} {t : Schedule} {k : Kept} (sound : Sound plan
         bounded plan s sound i .lists,
         sound .workers,
       )
+
+  -- whether one of the workers sleeps, by the code
+  asleep-by : (v : ℕ) → v < workersOf plan → eqb (getD (k .fates) v 0) codeAsleep ≡ isAsleep (fateIn s v)
+  asleep-by v h = ap (λ (c : ℕ). eqb c codeAsleep) (shows .lists .fates v h) ∙ code-asleep (fateIn s v)
+
+  -- nobody who waits sleeps
+  pub waiting-awake : (w : ℕ) → member w (listOf (t .lists .waiting)) ≡ true → eqb (getD (k .fates) w 0) codeAsleep ≡ false
+  waiting-awake w m =
+      let here : member w (s .waiting) ≡ true = ap (λ (ws : List ℕ). member w ws) (sym (shows .lists .waiting .list)) ∙ m in
+      asleep-by w (waiting-known plan s (i .core) w here)
+      ∙ waiter-awake (fateIn s w) (omega (arith, i .core .stands w .queued, member-some w (s .waiting) here))
+
+  -- there is room for a sleeper
+  pub lists-spare : (op number : ℕ) → (op ≡ opStart → number < workersOf plan)
+      → length (listOf (t .lists .list)) + length (listOf (t .lists .next)) + length (listOf (t .lists .waiting)) + calledBy op number (k .fates) ≤ workersLimit
+  lists-spare op number target = go (eqb op opStart) refl
+    where
+      lists : ℕ
+      lists = length (listOf (t .lists .list)) + length (listOf (t .lists .next)) + length (listOf (t .lists .waiting))
+
+      spare : number < workersOf plan → eqb (getD (k .fates) number 0) codeAsleep ≡ true → lists < workersLimit
+      spare h e =
+          omega (
+            arith,
+            ap length (shows .lists .list .list),
+            ap length (shows .lists .next .list),
+            ap length (shows .lists .waiting .list),
+            spare-bound plan s number (i .core) h (sleeper (fateIn s number) (sym (asleep-by number h) ∙ e) .resting),
+            sound .workers,
+          )
+
+      within : number < workersOf plan → (b : Bool) → eqb (getD (k .fates) number 0) codeAsleep ≡ b → lists + cond b 1 0 ≤ workersLimit
+      within h true e = omega (arith, spare h e)
+      within h false e = omega (arith, lists-fit)
+
+      go : (b : Bool) → eqb op opStart ≡ b → lists + cond b (sleepersAt (k .fates) number) 0 ≤ workersLimit
+      go true e = within (target (eqb-true op opStart e)) (eqb (getD (k .fates) number 0) codeAsleep) refl
+      go false e = omega (arith, lists-fit)
 
   pub moves-fit : t .counts .moves ≤ 2064
   moves-fit = omega (arith, shows .moves, bounded plan s sound i .movesFit)

@@ -6,7 +6,7 @@ use mathlib.Core.Bool.{true}
 use mathlib.Core.Path.{_≡_, sym, ap, _∙_, subst⁻¹}
 use mathlib.Core.List.{List, [], _∷_}
 use lib.ListN.{length, getD, length-append}
-use Rattle.protocol.specs.Ops.{opLock, opExit}
+use Rattle.protocol.specs.Ops.{opLock, opStart}
 use Rattle.protocol.specs.Format.{recordLength, recordsLimit, workersLimit, barrierCount, stepsLimit, Plan, Step, own, sync, Sync, records, firstIn, planOf}
 use Rattle.protocol.specs.Steps as steps
 use Rattle.protocol.specs.Steps.{stepAt}
@@ -37,7 +37,7 @@ use Rattle.engine.specs.Moving.{Able, stateOf}
 use Rattle.engine.proofs.Facts as facts
 use Rattle.engine.proofs.Facts.{Holder, holder, ruleAt, applied, hold-core}
 
-step-of-sync : (r : Record) → opLock ≤ r .op → r .op ≤ opExit → stepOfBody r ≡ sync (syncOf (r .op) (r .number))
+step-of-sync : (r : Record) → opLock ≤ r .op → r .op ≤ opStart → stepOfBody r ≡ sync (syncOf (r .op) (r .number))
 unfolding stepOfBody
 step-of-sync r least most =
     step-sync (recordOf r) least most
@@ -134,8 +134,8 @@ module _ {file sizes firsts : List ℕ} {w : ℕ} {t : Schedule} {k : Kept} (a :
         ∙ ap (λ (i : ℕ). fetchedAs file i (getD firsts (w + 1) 0) (getD (k .places) w 0)) first-right
         ∙ ap (λ (i : ℕ). fetchedAs file (firstIn (records file) w) i (getD (k .places) w 0)) end-right
 
-    pub range : InRange (plan .sizes) r
-    range = subst⁻¹ (λ (b : Record). InRange (plan .sizes) b) same (in-range file (a .laid .ok) w (getD (k .places) w 0))
+    pub range : InRange (workersOf plan) (plan .sizes) r
+    range = subst⁻¹ (λ (b : Record). InRange (workersOf plan) (plan .sizes) b) same (in-range file (a .laid .ok) w (getD (k .places) w 0))
 
     step-here : {q : Step} → stepOfBody r ≡ q → stepAt plan w (workerAt s w .place) ≡ q
     step-here q =

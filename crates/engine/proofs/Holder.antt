@@ -12,7 +12,7 @@ use Rattle.protocol.specs.Steps.{onCondition, atBarrier, stepAt}
 use Rattle.protocol.specs.Turns.{workersOf, move}
 use Rattle.protocol.specs.Report.{entryLength, entryBytes, logBytes}
 use Rattle.protocol.specs.Rounds as rounds
-use Rattle.protocol.specs.Rounds.{State, workerAt, queueOf, ruleOf, apply, member, staysIn, joinsNext, memoryAfter, copiesAfter, fateAfter, opOf, operandOf, Entry, entryOf}
+use Rattle.protocol.specs.Rounds.{State, workerAt, queueOf, fateIn, ruleOf, apply, member, staysIn, joinsNext, memoryAfter, copiesAfter, fateAfter, opOf, operandOf, Entry, entryOf}
 use Rattle.protocol.proofs.Invariant.{Core}
 use Rattle.plan.specs.declared.decode.Record.{Record}
 use Rattle.worker.specs.Private.{heldAs}
@@ -62,10 +62,10 @@ module _ {r : Record} {w : ℕ} {t : Schedule} {sizes : List ℕ} {k : Kept} (h 
   step : stepAt plan w (workerAt s w .place) ≡ sync y
   step = sync-here (h .here) (h .fetched) (h .late)
 
-  in-range : InRange (plan .sizes) r
+  in-range : InRange (workersOf plan) (plan .sizes) r
   in-range = range (h .here) (h .fetched)
 
-  pub deciding : Deciding r w count (t .lists)
+  pub deciding : Deciding r w count (t .lists) (k .fates)
   deciding =
       let a = h .here in
       record {
@@ -73,14 +73,16 @@ module _ {r : Record} {w : ℕ} {t : Schedule} {sizes : List ℕ} {k : Kept} (h 
         most = sync-kind in-range (h .late);
         operand = in-range .object (h .late);
         barrier = λ e. in-range .queue (omega arith) (omega arith);
+        target = λ e. omega (arith, in-range .target e, sound a .workers);
         holder = small a;
         count = held-small a;
         list = a .refines .lists .list .good;
         next = a .refines .lists .next .good;
         waiting = a .refines .lists .waiting .good;
         below = facts.waiting-below (sound a) (inv a) (a .refines);
+        awake = facts.waiting-awake (sound a) (inv a) (a .refines);
         first = list-some a;
-        total = facts.lists-fit (sound a) (inv a) (a .refines);
+        total = facts.lists-spare (sound a) (inv a) (a .refines) (r .op) (r .number) (in-range .target);
       }
 
   pub rounds-fit : t .counts .rounds < 65535
@@ -92,11 +94,12 @@ module _ {r : Record} {w : ℕ} {t : Schedule} {sizes : List ℕ} {k : Kept} (h 
     ruled =
         let a = h .here in
         let queue = facts.queue-listed (sound a) (inv a) (a .refines) in
-        x .ruled .same plan (queueOf s)
+        x .ruled .same plan (queueOf s) (fateIn s)
         (λ l m. queue (onCondition (r .number)))
         (λ e. queue (atBarrier (r .number)))
         (λ e. sym (sizes-right a (r .number) (in-range .queue (omega arith) (omega arith))))
-        ∙ ap (λ (i : ℕ). ruleOf plan (queueOf s) i y) (held-same a)
+        (λ e. a .refines .lists .fates (r .number) (in-range .target e))
+        ∙ ap (λ (i : ℕ). ruleOf plan (queueOf s) (fateIn s) i y) (held-same a)
 
     lists-moved : ListsMoved (t .lists) R w (d .lists)
     lists-moved = subst (λ (q : rounds.Ruling). ListsMoved (t .lists) q w (d .lists)) ruled (x .moved)

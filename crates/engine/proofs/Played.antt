@@ -6,7 +6,7 @@ use mathlib.Core.Path.{_≡_, refl, sym, ap, _∙_, subst, subst⁻¹}
 use mathlib.Core.List.{List}
 use lib.ListN.{length, getD, replicate}
 use lib.Seq.{take-all}
-use Rattle.protocol.specs.Format.{workersLimit, planOf}
+use Rattle.protocol.specs.Format.{workersLimit, planIn, planOf}
 use Rattle.protocol.specs.Rounds.{State}
 use Rattle.protocol.specs.Turns.{workersOf, turn, play, noneLeft}
 use Rattle.protocol.specs.Calls.{playedFrom}
@@ -33,14 +33,18 @@ over : {file turns start : List ℕ} {t : Schedule} {k : Kept} → Refines (work
 over {k = k} shows =
     record { places = k .places; held = k .held; registers = k .registers; can = k .can; copied = k .copied; refines = shows }
 
-module _ {file : List ℕ} {n : ℕ} {sizes firsts turns memory log work : List ℕ} (p : Playing file n sizes firsts turns memory log work) where
-  pub begins : {t : Schedule} {can : List Bool} → RoundBegun n (replicate workersLimit false) t can → PlayedSoFar file turns memory 0 t (startKept can memory log work)
-  unfolding play
+module _ {file : List ℕ} {n : ℕ} {sizes firsts first turns memory log work : List ℕ} (p : Playing file n sizes firsts first turns memory log work) where
+  pub begins : {t : Schedule} {can : List Bool} → RoundBegun n first (replicate workersLimit false) t can
+      → PlayedSoFar file turns memory 0 t (startKept first can memory log work)
+  unfolding play planIn
   begins {t} {can} begun =
       record {
         within = omega arith;
         refines =
-            start-refines (planOf file) memory log work (subst (λ (i : ℕ). RoundBegun i (replicate workersLimit false) t can) (p .workers) begun) (p .bytes) (p .room);
+            start-refines (planOf file) first memory log work (plan-sound (p .named) .workers) (p .fates)
+            (subst (λ (i : ℕ). RoundBegun i first (replicate workersLimit false) t can) (p .workers) begun)
+            (p .bytes)
+            (p .room);
       }
 
   module _ {i : ℕ} {t : Schedule} (k : List ℕ → List ℕ → Kept) (fates log′ : List ℕ) (s : PlayedSoFar file turns memory i t (k fates log′)) where

@@ -4,9 +4,9 @@ use native.Mathlib.Numerals.{add-one}
 use native.Mathlib.Decide.{decLt}
 use native.Mathlib.Omega.{arith}
 use mathlib.Core.Bool.{Bool, true, false, cond}
-use mathlib.Core.Path.{_≡_, sym, ap, _∙_, subst⁻¹}
+use mathlib.Core.Path.{_≡_, refl, sym, ap, _∙_, subst⁻¹}
 use mathlib.Core.List.{List, [], _∷_}
-use lib.Dec.{leb}
+use lib.Dec.{leb, eqb}
 use lib.ListN.{length, getD, take}
 use lib.Seq.{take-suc}
 use borrow.Author.Tests.{leb-false}
@@ -20,12 +20,14 @@ use Rattle.protocol.proofs.Counting.{member-some, occurs-above}
 use Rattle.protocol.proofs.Laws.{start-inv}
 use Rattle.protocol.proofs.Sound.{Sound}
 use Rattle.protocol.proofs.Covered.{any-none}
+use Rattle.format.specs.Fates.{codeGoing}
 use Rattle.queue.specs.List.{Below}
+use Rattle.rules.proofs.Moving.{below-keep}
 use Rattle.engine.specs.declared.state.Schedule.{Schedule}
 use Rattle.engine.specs.Kept.{Kept}
 use Rattle.engine.specs.Refines.{Refines}
 use Rattle.engine.specs.Moving.{Able}
-use Rattle.engine.specs.Turning.{Named}
+use Rattle.engine.specs.Turning.{Named, awake}
 use Rattle.engine.proofs.Facts as facts
 
 -- the state after so many of the turns
@@ -62,6 +64,10 @@ up-to-below {n} {workers} l e w m = go (decLt w workersLimit)
     go : Dec (w < workersLimit) → w < workersLimit
     go (yes k) = k
     go (no nk) = absurd (omega (arith, member-some w (upTo n) (ap (λ (ws : List ℕ). member w ws) (sym e) ∙ m), occurs-above n 0 w (omega arith)))
+
+pub awake-below : {n : ℕ} (fates : List ℕ) {workers : List ℕ} → n ≤ workersLimit → workers ≡ awake n fates → Below workersLimit workers
+awake-below {n} fates l e =
+    subst⁻¹ (λ (ws : List ℕ). Below workersLimit ws) e (below-keep workersLimit (λ w. eqb (getD fates w 0) codeGoing) (upTo n) (up-to-below l refl))
 
 -- the turns of an accepted run
 module _ {file sizes firsts turns : List ℕ} (p : Named file sizes firsts turns) where

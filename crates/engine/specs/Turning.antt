@@ -3,11 +3,15 @@ use Prim.Native.Nat.{ℕ, _+_, _≤_, _<_}
 use mathlib.Core.Bool.{Bool, true, false}
 use mathlib.Core.Path.{_≡_}
 use mathlib.Core.List.{List, []}
+use lib.Dec.{eqb}
 use lib.ListN.{length, getD, take}
 use Rattle.protocol.specs.Ops.{opLock}
-use Rattle.protocol.specs.Format.{upTo, planOf}
+use Rattle.protocol.specs.Format.{upTo, records, sleepersIn, planOf}
+use Rattle.protocol.specs.Rounds.{keep}
 use Rattle.protocol.specs.Turns.{workersOf}
 use Rattle.protocol.specs.Calls.{logLength, turnsLimit, namesNobody, playedFrom}
+use Rattle.format.specs.Fates.{codeGoing}
+use Rattle.plan.specs.Sleeping.{FirstFates}
 use Rattle.plan.specs.declared.decode.Record.{Record}
 use Rattle.pages.specs.Copies.{Lent}
 use Rattle.moves.specs.Moves.{fetchedAs}
@@ -58,21 +62,26 @@ pub record Turned (file firsts turns : List ℕ) (from made : ℕ) (k : List ℕ
       (h : Turning file firsts turns from made k)
       → Refines (workersOf (planOf file)) (playedFrom (planOf file) (h .start) (take (r .turn) turns)) (movesAs (h .schedule) (r .moves)) (k′ (h .fates) (h .log))
 
+-- those of n workers who are going, by the codes of the fates
+abbrev pub awake : ℕ → List ℕ → List ℕ
+awake n fates = keep (λ w. eqb (getD fates w 0) codeGoing) (upTo n)
+
 -- the schedule of round 1, and who can move
-pub record RoundBegun (n : ℕ) (can : List Bool) (t : Schedule) (can′ : List Bool) : Type 0 where
-  pub list : Holds (t .lists .list) (upTo n)
+pub record RoundBegun (n : ℕ) (fates : List ℕ) (can : List Bool) (t : Schedule) (can′ : List Bool) : Type 0 where
+  pub list : Holds (t .lists .list) (awake n fates)
   pub next : Holds (t .lists .next) []
   pub waiting : Holds (t .lists .waiting) []
-  pub away : t .away ≡ n
+  pub away : t .away ≡ length (awake n fates)
   pub moves : t .counts .moves ≡ 0
   pub rounds : t .counts .rounds ≡ 0
   pub records : t .counts .records ≡ 0
-  pub marks : can′ ≡ raised (upTo n) can
+  pub marks : can′ ≡ raised (awake n fates) can
 
--- what a list of turns takes: buffers of their lengths, and turns that name the n workers of an accepted file
-pub record Playing (file : List ℕ) (n : ℕ) (sizes firsts turns memory log work : List ℕ) : Type 0 where
+-- what a list of turns takes: buffers of their lengths, turns that name the n workers of an accepted file, and the codes of their fates at first
+pub record Playing (file : List ℕ) (n : ℕ) (sizes firsts first turns memory log work : List ℕ) : Type 0 where
   pub named : Named file sizes firsts turns
   pub workers : n ≡ workersOf (planOf file)
+  pub fates : FirstFates (sleepersIn (records file)) first
   pub bytes : Lent memory work
   pub room : length log ≡ logLength
 

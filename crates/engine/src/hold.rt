@@ -1,6 +1,5 @@
 // The holder's synchronising step: decided by its rule, then written.
 use crate::state::Schedule;
-use format::fates::AT_BARRIER;
 use format::limits::BARRIER_COUNT;
 use format::limits::WORKERS_LIMIT;
 use journal::log::packed;
@@ -12,6 +11,7 @@ use rules::lists::Lists;
 use rules::lists::moved;
 use rules::ruling::Ruling;
 use rules::ruling::Uncommitted;
+use rules::ruling::key;
 use rules::ruling::rule;
 use token::turn_over;
 use worker::Worker;
@@ -43,13 +43,12 @@ fn decide(
     lists: Lists,
     fates: &[u64; WORKERS_LIMIT],
 ) -> Decision
-    requires { ⌜ Deciding r h held lists ⌝ }
+    requires { ⌜ Deciding r h held lists (now fates) ⌝ }
     ensures { λ d. ⌜ Decided r h held (now (sizes .entry)) lists (now (fates .entry)) d ⌝ }
 {
     let waiting = lists.waiting;
     let ruling = rule(r.op, r.number, held, sizes, waiting, fates);
-    let code = AT_BARRIER + 2 * (r.number as u64);
-    let after = moved(lists, ruling, h, fates, code);
+    let after = moved(lists, ruling, h, fates, key(r.op, r.number));
     Decision {
         ruling,
         lists: after,

@@ -3,6 +3,7 @@ use crate::own::play_own;
 use crate::state::Played;
 use crate::state::Schedule;
 use crate::sync::sync;
+use format::fates::GOING;
 use format::limits::BARRIER_COUNT;
 use format::limits::WORKERS_LIMIT;
 use journal::report::Counts;
@@ -14,12 +15,12 @@ ghost use Prim.Native.Nat.{_≤_};
 ghost use Rattle.protocol.specs.Format.{workersLimit};
 ghost use Rattle.engine.specs.Turning.{RoundBegun, Playing, Over};
 
-// Round 1 of n workers: all of them are in its list, and all can move.
-fn first_round(n: u64, can: &mut [bool; WORKERS_LIMIT]) -> Schedule
+// Round 1 of n workers: all of them who are awake are in its list, and can move.
+fn first_round(n: u64, fates: &[u64; WORKERS_LIMIT], can: &mut [bool; WORKERS_LIMIT]) -> Schedule
     requires { ⌜ n ≤ workersLimit ⌝ }
-    ensures { λ t. ⌜ RoundBegun n (now (can .entry)) t (now (can .exit)) ⌝ }
+    ensures { λ t. ⌜ RoundBegun n (now (fates .entry)) (now (can .entry)) t (now (can .exit)) ⌝ }
 {
-    let list = Queue::up_to(n);
+    let list = Queue::among(n, fates, GOING);
     let next = Queue::empty();
     let waiting = Queue::empty();
     raise(can, list);
@@ -30,7 +31,7 @@ fn first_round(n: u64, can: &mut [bool; WORKERS_LIMIT]) -> Schedule
     };
     Schedule {
         lists,
-        away: n,
+        away: list.count(),
         counts: Counts {
             moves: 0,
             rounds: 0,
@@ -39,27 +40,28 @@ fn first_round(n: u64, can: &mut [bool; WORKERS_LIMIT]) -> Schedule
     }
 }
 
-// Plays the turns from the start of round 1. A turn by a worker that cannot move passes.
+// Plays the turns from the start of round 1, at which the fates have these codes. A turn by a worker that cannot move passes.
 pub fn play(
     file: &[u8],
     n: u8,
     sizes: &[u8; BARRIER_COUNT],
     firsts: &[usize; WORKERS_LIMIT + 1],
+    first: [u64; WORKERS_LIMIT],
     turns: &[u8],
     memory: &mut [u8],
     log: &mut [u8],
     work: &mut [u8],
 ) -> Played
-    requires { ⌜ Playing (now file) n (now sizes) (now firsts) (now turns) (now memory) (now log) (now work) ⌝ }
+    requires { ⌜ Playing (now file) n (now sizes) (now firsts) first (now turns) (now memory) (now log) (now work) ⌝ }
     ensures { λ p. ⌜ Over (now (file .entry)) (now (turns .entry)) (now (memory .entry)) p (now (memory .exit)) (now (log .exit)) (now (work .exit)) ⌝ }
 {
     let mut places = [0usize; WORKERS_LIMIT];
     let mut held = [0u64; WORKERS_LIMIT];
     let mut registers = [0u64; WORKERS_LIMIT];
-    let mut fates = [0u64; WORKERS_LIMIT];
+    let mut fates = first;
     let mut can = [false; WORKERS_LIMIT];
     let mut copied = [false; SLOTS];
-    let mut t = first_round(n as u64, &mut can);
+    let mut t = first_round(n as u64, &fates, &mut can);
     let mut i = 0;
     while i < turns.len() {
         let own = play_own(

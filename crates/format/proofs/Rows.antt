@@ -33,11 +33,11 @@ on-run f g a n tested o l h =
     ∙ (ap (λ (ks : List ℕ). getD ks (o - a) 0) tested ∙ getD-counted g 0 n a (o - a) (omega arith)))
 
 -- an op without a row
-pub no-row : (o : ℕ) → placeIn table o ≡ 14 → limitsFor o ≡ none
+pub no-row : (o : ℕ) → placeIn table o ≡ 15 → limitsFor o ≡ none
 no-row o e = at-place table o ∙ ap (λ (k : ℕ). getD (map (λ x. some (limitsOf x)) table) k none) e
 
 -- the row of an op stands at its place
-pub row-at : (o : ℕ) (d : Row) → placeIn table o < 14 → limitsFor o ≡ some (getD limits (placeIn table o) d)
+pub row-at : (o : ℕ) (d : Row) → placeIn table o < 15 → limitsFor o ≡ some (getD limits (placeIn table o) d)
 unfolding limits
 row-at o d h =
     at-place table o
@@ -54,5 +54,5 @@ place-in (x ∷ xs) o = go (place-in xs o) (eqb (x .op) o)
     go h true = omega arith
     go h false = omega arith
 
-pub place-inside : (o : ℕ) → placeIn table o ≤ 14
+pub place-inside : (o : ℕ) → placeIn table o ≤ 15
 place-inside o = place-in table o

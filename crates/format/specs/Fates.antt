@@ -10,6 +10,9 @@ codeExited = 1
 abbrev pub codeFailed : ℕ
 codeFailed = 2
 
+abbrev pub codeAsleep : ℕ
+codeAsleep = 3
+
 abbrev pub codeOnCondition : ℕ
 codeOnCondition = 4
 

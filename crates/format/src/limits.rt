@@ -33,4 +33,4 @@ pub const RECORD_NUMBER: usize = 5;
 
 pub const PLAN_MARK: u16 = 0x504D;
 
-pub const FILE_LIMIT: usize = 7231;
+pub const FILE_LIMIT: usize = 7280;

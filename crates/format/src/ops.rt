@@ -3,6 +3,8 @@ pub const PLAN_RECORD: u8 = 0;
 
 pub const BARRIER_RECORD: u8 = 1;
 
+pub const SLEEP_RECORD: u8 = 2;
+
 pub const SET: u8 = 16;
 
 pub const LOAD: u8 = 17;
@@ -31,3 +33,5 @@ pub const BROADCAST: u8 = 36;
 pub const BARRIER: u8 = 37;
 
 pub const EXIT: u8 = 38;
+
+pub const START: u8 = 39;

@@ -14,7 +14,7 @@ pub struct Row {
     pub most: u16,
 }
 
-pub const ROW_COUNT: usize = 14;
+pub const ROW_COUNT: usize = 15;
 
 // Where the rows of the ops that synchronise begin.
 const FIRST_SYNC: usize = 7;
@@ -106,6 +106,12 @@ const ROWS: [Row; ROW_COUNT] = [
         least: 0,
         most: 0,
     },
+    Row {
+        op: ops::START as u16,
+        registers: 0,
+        least: 0,
+        most: limits::WORKERS_LIMIT as u16 - 1,
+    },
 ];
 
 // The rows, for a caller to make once: a constant that is indexed in a loop is made each time.
@@ -121,7 +127,7 @@ pub fn place(op: u8) -> usize
 {
     match op {
         ops::SET..=ops::SKIP_NONZERO => (op - ops::SET) as usize,
-        ops::LOCK..=ops::EXIT => (op - ops::LOCK) as usize + FIRST_SYNC,
+        ops::LOCK..=ops::START => (op - ops::LOCK) as usize + FIRST_SYNC,
         _ => ROW_COUNT,
     }
 }

@@ -2,13 +2,13 @@
 use Prim.Native.Nat.{ℕ, _+_, _%_, _<_}
 use mathlib.Core.Bool.{cond}
 use mathlib.Core.List.{List, _∷_, _++_, map}
-use lib.Dec.{ltb, leb}
+use lib.Dec.{ltb, leb, eqb}
 use lib.ListN.{getD}
 use Rattle.protocol.specs.Format.{workersLimit, countFrom}
-use Rattle.protocol.specs.Steps.{onCondition, waiting}
+use Rattle.protocol.specs.Steps.{onCondition, asleep, waiting}
 use Rattle.protocol.specs.Rounds.{Entry}
 use Rattle.protocol.specs.Report.{twoBytes, fateNumber, noWorker}
-use Rattle.format.specs.Fates.{codeOnCondition}
+use Rattle.format.specs.Fates.{codeAsleep}
 use Rattle.journal.specs.declared.report.Counts.{Counts}
 
 abbrev pub entryAs : ℕ → ℕ → ℕ → ℕ → ℕ → Entry
@@ -20,7 +20,7 @@ shownOnCondition = fateNumber (waiting (onCondition 0))
 
 -- a fate's byte, by its code, which is even on a condition and odd at a barrier
 abbrev pub shownBy : ℕ → ℕ
-shownBy code = cond (ltb code codeOnCondition) code (shownOnCondition + code % 2)
+shownBy code = cond (ltb code codeAsleep) code (cond (eqb code codeAsleep) (fateNumber asleep) (shownOnCondition + code % 2))
 
 abbrev pub shown : ℕ → ℕ → ℕ → ℕ
 shown workers w code = cond (leb workers w) noWorker (shownBy code)

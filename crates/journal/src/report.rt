@@ -20,10 +20,12 @@ pub const REPORT_FATES: usize = 8;
 
 pub const REPORT_LENGTH: usize = REPORT_FATES + WORKERS_LIMIT;
 
-// The bytes of fates that are not their codes (format::fates): one for any condition, one for any barrier, one for no worker.
+// The bytes of fates that are not their codes (format::fates): one for any condition, one for any barrier, one for a sleeper, one for no worker.
 const SHOWN_ON_CONDITION: u8 = 3;
 
 const SHOWN_AT_BARRIER: u8 = 4;
+
+const SHOWN_ASLEEP: u8 = 5;
 
 const NO_WORKER: u8 = 255;
 
@@ -41,8 +43,11 @@ fn fate_byte(code: u64, w: u8, workers: u8) -> u8
     if workers <= w {
         return NO_WORKER;
     }
-    if code < fates::ON_CONDITION {
+    if code < fates::ASLEEP {
         return (code % 256) as u8;
+    }
+    if code == fates::ASLEEP {
+        return SHOWN_ASLEEP;
     }
     if code % 2 == 0 {
         return SHOWN_ON_CONDITION;

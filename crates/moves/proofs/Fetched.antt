@@ -10,17 +10,19 @@ use native.Mathlib.Decide.{decLt}
 use lib.Dec.{ltb, eqb}
 use lib.ListN.{length, getD, List·getD-eq-default}
 use borrow.Author.Tests.{lt-ltb, le-ltb, ltb-false, eq-eqb, eqb-false, not-true, not-false}
-use Rattle.protocol.specs.Ops.{opSet, opLoad, opStore, opAdd, opSubtract, opSkipZero, opSkipNonzero, opLock, opWait, opBarrier, opExit}
+use Rattle.protocol.specs.Ops.{opSet, opLoad, opStore, opAdd, opSubtract, opSkipZero, opSkipNonzero, opLock, opWait, opBarrier, opExit, opStart}
 use Rattle.protocol.specs.Format as format
 use Rattle.protocol.specs.Format.{registerCount, stepsLimit, Row, table, rowIn, rowOf, isStep, recordFrom, recordsFrom, recordCount, records, Step, sync, exit, stepOf}
 use Rattle.protocol.specs.Format.{stepsIn, sizeIn, firstIn, planOf, barrierCount, recordLength, sizeLimit, recordsLimit, addressLimit, lockLimit}
-use Rattle.protocol.specs.Refusals.{accepted, check, operandsOutside, anyOf}
+use Rattle.protocol.specs.Refusals.{accepted, check, wrongOperand, anyOf}
 use Rattle.protocol.specs.Steps.{stepsOf, stepAt}
-use Rattle.protocol.proofs.Bools.{or-left, or-right, and-left}
+use Rattle.protocol.specs.Turns.{workersOf}
+use Rattle.protocol.proofs.Bools.{and-left}
+use Rattle.protocol.proofs.Covered.{operands-inside}
 use Rattle.protocol.proofs.Records.{names, first-inside}
 use Rattle.protocol.proofs.Tabled.{Every, row-of}
 use Rattle.protocol.specs.WellFormed.{blank}
-use Rattle.protocol.proofs.Accepted.{AcceptedFile, accepted-file, length-records, steps-of, size-of}
+use Rattle.protocol.proofs.Accepted.{AcceptedFile, accepted-file, length-records, workers-of, steps-of, size-of}
 use Rattle.plan.specs.Answer.{bodyOf}
 use Rattle.plan.specs.declared.decode.Record.{Record}
 use Rattle.moves.specs.Moves.{endBody, fetchedAs, stepOfBody, InRange}
@@ -45,7 +47,7 @@ step-end = refl
 -- what the limits of every row say of its op
 record Ranged (x : Row) : Type 0 where
   least : opSet ≤ x .op
-  most : x .op ≤ opExit
+  most : x .op ≤ opStart
   apart : x .op < opLock → x .op ≤ opSkipNonzero
   named : x .op ≤ opSkipNonzero → x .registers < registerCount
   address : opLoad ≤ x .op → x .op ≤ opStore → x .most ≤ addressLimit
@@ -59,20 +61,18 @@ tableRanged : Every Ranged table
 tableRanged = search (tt, arith) depth 40 fits 4000
 
 -- a step record within its row's limits
-ranged : (sizes : List ℕ) (r : format.Record) → isStep r ≡ true → operandsOutside (rowOf (r .op)) (r .register) (r .number) ≡ false
+ranged : (n : ℕ) (sizes : List ℕ) (r : format.Record) → isStep r ≡ true → wrongOperand n r ≡ false
     → (r .op ≡ opBarrier → r .number < barrierCount → (1 ≤ getD sizes (r .number) 0) × (getD sizes (r .number) 0 ≤ sizeLimit))
-    → InRange sizes (bodyOf r)
-unfolding operandsOutside
-ranged sizes r step fits sized =
+    → InRange n sizes (bodyOf r)
+ranged n sizes r step fits sized =
     let f = row-of Ranged tableRanged r step in
     let x = f .row in
     let h = f .holds in
     let op = f .op in
-    let inside = sym (ap (λ (o : Option Row). operandsOutside o (r .register) (r .number)) (f .isRow)) ∙ fits in
-    let register = ltb-false (x .registers) (r .register) (or-left (ltb (x .registers) (r .register)) (ltb (r .number) (x .least) || ltb (x .most) (r .number)) inside) in
-    let number = or-right (ltb (x .registers) (r .register)) inside in
-    let low = ltb-false (r .number) (x .least) (or-left (ltb (r .number) (x .least)) (ltb (x .most) (r .number)) number) in
-    let high = ltb-false (x .most) (r .number) (or-right (ltb (r .number) (x .least)) number) in
+    let inside = operands-inside n r x (f .isRow) fits in
+    let register = inside .register in
+    let low = inside .least in
+    let high = inside .most in
     let queue : opWait ≤ r .op → r .op ≤ opBarrier → r .number < barrierCount = λ l m. let k = h .queue (omega arith) (omega arith) in omega arith in
     record {
       kind =
@@ -87,11 +87,12 @@ ranged sizes r step fits sized =
       object = λ l. let k = h .object (omega arith) in omega arith;
       queue = queue;
       exit = λ e. let k = h .exit (omega arith) in omega arith;
+      target = inside .target;
       size = λ e. sized e (queue (omega arith) (omega arith));
     }
 
-ranged-end : (sizes : List ℕ) → InRange sizes endBody
-ranged-end sizes =
+ranged-end : (n : ℕ) (sizes : List ℕ) → InRange n sizes endBody
+ranged-end n sizes =
     record {
       kind = inr (omega arith);
       named = λ l. omega arith;
@@ -101,6 +102,7 @@ ranged-end sizes =
       object = λ l. omega arith;
       queue = λ l m. omega arith;
       exit = λ e. refl;
+      target = λ e. absurd (omega arith);
       size = λ e. absurd (omega arith);
     }
 
@@ -167,7 +169,7 @@ module _ (file : List ℕ) (ok : check file ≡ accepted) where
       omega arith
 
   -- The fetched record is in range.
-  pub in-range : (w place : ℕ) → InRange (planOf file .sizes) (fetchedAs file (firstIn rs w) (firstIn rs (suc w)) place)
+  pub in-range : (w place : ℕ) → InRange (workersOf (planOf file)) (planOf file .sizes) (fetchedAs file (firstIn rs w) (firstIn rs (suc w)) place)
   in-range w place =
       elim (decLt (firstIn rs w + place) (firstIn rs (suc w))) [
         | yes h ↦
@@ -176,10 +178,10 @@ module _ (file : List ℕ) (ok : check file ≡ accepted) where
             let s = a .records .read .placed w place (omega (arith, a .records .read .together w)) in
             let step = and-left (isStep r) (eqb (r .worker) w) (s .ofWorker) in
             let f = a .records .read .fit i (omega (arith, first-inside rs (suc w))) step in
-            subst⁻¹ (λ (b : Record). InRange (planOf file .sizes) b) (fetched-record w place h)
-            (ranged (planOf file .sizes) r step (f .inside)
+            subst⁻¹ (λ (b : Record). InRange (workersOf (planOf file)) (planOf file .sizes) b) (fetched-record w place h)
+            (ranged (workersOf (planOf file)) (planOf file .sizes) r step (ap (λ (n : ℕ). wrongOperand n r) (workers-of rs (a .records)) ∙ f .inside)
             (λ e m. sized (r .number) m (not-false _ (sym (ap (λ (b : Bool). b && not (anyOf (names (r .number)) rs)) (eq-eqb (r .op) opBarrier e)) ∙ f .sized))))
         | no h ↦
-            subst⁻¹ (λ (b : Record). InRange (planOf file .sizes) b) (fetched-end file (firstIn rs w) (firstIn rs (suc w)) place (omega arith))
-            (ranged-end (planOf file .sizes))
+            subst⁻¹ (λ (b : Record). InRange (workersOf (planOf file)) (planOf file .sizes) b) (fetched-end file (firstIn rs w) (firstIn rs (suc w)) place (omega arith))
+            (ranged-end (workersOf (planOf file)) (planOf file .sizes))
       ]

@@ -8,7 +8,7 @@ use native.Mathlib.Omega.{arith}
 use lib.Dec.{eqb}
 use lib.ListN.{length}
 use borrow.Author.Tests.{eq-eqb, ne-eqb}
-use Rattle.protocol.specs.Ops.{opSet, opLoad, opStore, opAdd, opSubtract, opSkipZero, opSkipNonzero, opLock, opExit}
+use Rattle.protocol.specs.Ops.{opSet, opLoad, opStore, opAdd, opSubtract, opSkipZero, opSkipNonzero, opLock, opStart}
 use Rattle.protocol.specs.Format.{stepsLimit, Own, assign, load, store, add, subtract, skipZero, skipNonzero, own}
 use Rattle.protocol.specs.Pages.{Copies, loadWord}
 use Rattle.protocol.specs.Steps as steps
@@ -25,10 +25,10 @@ use Rattle.worker.specs.declared.Outcome.{Outcome}
 use Rattle.moves.specs.Moves.{stepOfBody, InRange, OwnMoving, copiesLeft, OwnMoved}
 
 -- an op below the first that synchronises is an own step's, any other a synchronising step's
-pub own-kind : {sizes : List ℕ} {r : Record} → InRange sizes r → r .op < opLock → (opSet ≤ r .op) × (r .op ≤ opSkipNonzero)
+pub own-kind : {n : ℕ} {sizes : List ℕ} {r : Record} → InRange n sizes r → r .op < opLock → (opSet ≤ r .op) × (r .op ≤ opSkipNonzero)
 own-kind i h = ⊎-elim (λ k. k) (λ k. absurd (omega arith)) (i .kind)
 
-pub sync-kind : {sizes : List ℕ} {r : Record} → InRange sizes r → opLock ≤ r .op → r .op ≤ opExit
+pub sync-kind : {n : ℕ} {sizes : List ℕ} {r : Record} → InRange n sizes r → opLock ≤ r .op → r .op ≤ opStart
 sync-kind i h = ⊎-elim (λ k. absurd (omega arith)) (λ k. k .1) (i .kind)
 
 pub step-of-own : (r : Record) → opSet ≤ r .op → r .op ≤ opSkipNonzero → stepOfBody r ≡ own (ownOf (r .op) (r .register) (r .number))
@@ -37,7 +37,7 @@ step-of-own r least most =
     step-own (recordOf r) least most
 
 -- a record in range and a worker within its steps
-pub own-ready : {sizes : List ℕ} (v : Worker) (r : Record) → InRange sizes r → opSet ≤ r .op → r .op ≤ opSkipNonzero → v .place ≤ stepsLimit → OwnMoving v r
+pub own-ready : {n : ℕ} {sizes : List ℕ} (v : Worker) (r : Record) → InRange n sizes r → opSet ≤ r .op → r .op ≤ opSkipNonzero → v .place ≤ stepsLimit → OwnMoving v r
 own-ready v r i least most place =
     record {
       ready =

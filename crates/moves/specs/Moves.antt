@@ -6,7 +6,7 @@ use mathlib.Core.Path.{_≡_}
 use mathlib.Core.List.{List}
 use lib.Dec.{eqb, ltb}
 use lib.ListN.{length, getD}
-use Rattle.protocol.specs.Ops.{opSet, opLoad, opStore, opAdd, opSubtract, opSkipZero, opSkipNonzero, opLock, opWait, opBarrier, opExit}
+use Rattle.protocol.specs.Ops.{opSet, opLoad, opStore, opAdd, opSubtract, opSkipZero, opSkipNonzero, opLock, opWait, opBarrier, opExit, opStart}
 use Rattle.protocol.specs.Format.{recordLength, registerCount, stepsLimit, barrierCount, sizeLimit, addressLimit, lockLimit, recordFrom, Step, stepOf}
 use Rattle.protocol.specs.Steps.{Fate, ownStep}
 use Rattle.protocol.specs.Pages.{Copies, loadWord}
@@ -30,9 +30,9 @@ fetchedAs file first end place =
 unfoldable pub stepOfBody : Record → Step
 stepOfBody r = stepOf (recordOf r)
 
--- what the record of a step is like, by the table's ranges; `sizes` has the size of each barrier
-pub record InRange (sizes : List ℕ) (r : Record) : Type 0 where
-  pub kind : ((opSet ≤ r .op) × (r .op ≤ opSkipNonzero)) ⊎ ((opLock ≤ r .op) × (r .op ≤ opExit))
+-- what the record of a step is like, by the table's ranges, in a plan of n workers; `sizes` has the size of each barrier
+pub record InRange (n : ℕ) (sizes : List ℕ) (r : Record) : Type 0 where
+  pub kind : ((opSet ≤ r .op) × (r .op ≤ opSkipNonzero)) ⊎ ((opLock ≤ r .op) × (r .op ≤ opStart))
   pub named : r .op ≤ opSkipNonzero → r .register < registerCount
   pub address : opLoad ≤ r .op → r .op ≤ opStore → r .number ≤ addressLimit
   pub operand : opAdd ≤ r .op → r .op ≤ opSubtract → r .number < registerCount
@@ -40,6 +40,7 @@ pub record InRange (sizes : List ℕ) (r : Record) : Type 0 where
   pub object : opLock ≤ r .op → r .number ≤ lockLimit
   pub queue : opWait ≤ r .op → r .op ≤ opBarrier → r .number < barrierCount
   pub exit : r .op ≡ opExit → r .number ≡ 0
+  pub target : r .op ≡ opStart → r .number < n
   pub size : r .op ≡ opBarrier → (1 ≤ getD sizes (r .number) 0) × (getD sizes (r .number) 0 ≤ sizeLimit)
 
 -- what an own step takes

@@ -4,6 +4,8 @@ pub mod Decoding
 pub mod Readings
 -- What the row of an op tells.
 pub mod Limited
+-- The sleep records: the code's test, and what is kept of them.
+pub mod Slept
 -- The step records.
 pub mod Stepped
 -- The skips.

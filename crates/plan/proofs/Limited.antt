@@ -6,7 +6,7 @@ use mathlib.Core.Option.{Option, none, some}
 use native.Mathlib.Omega.{arith}
 use lib.Dec.{ltb, eqb}
 use borrow.Author.Tests.{ne-eqb, ltb-false}
-use Rattle.protocol.specs.Ops.{opPlanRecord, opBarrierRecord, opBarrier}
+use Rattle.protocol.specs.Ops.{opPlanRecord, opBarrierRecord, opSleepRecord, opBarrier}
 use Rattle.protocol.specs.Format as format
 use Rattle.protocol.specs.Format.{rowOf, rowIn, known}
 use Rattle.protocol.specs.Refusals.{operandsOutside}
@@ -35,7 +35,7 @@ module _ (o : ℕ) (row : Row) (e : limitsFor o ≡ some row) where
   pub is-known : known o ≡ true
   is-known = row-known o (table-row .0) (table-row .1)
 
-  -- the ops of the plan record and of the barrier records have no row
+  -- the ops of the records that are no steps have no row
   other-op : (p : ℕ) → known p ≡ false → eqb o p ≡ false
   other-op p f = ne-eqb o p (λ z. true≢false (sym is-known ∙ (ap known z ∙ f)))
 
@@ -46,6 +46,10 @@ module _ (o : ℕ) (row : Row) (e : limitsFor o ≡ some row) where
   pub not-barrier-record : eqb o opBarrierRecord ≡ false
   unfolding known rowIn
   not-barrier-record = other-op opBarrierRecord refl
+
+  pub not-sleep-record : eqb o opSleepRecord ≡ false
+  unfolding known rowIn
+  not-sleep-record = other-op opSleepRecord refl
 
   pub outside-row : (register number : ℕ) → operandsOutside (rowOf o) register number ≡ outsideOf row register number
   unfolding operandsOutside

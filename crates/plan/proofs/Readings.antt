@@ -11,20 +11,20 @@ use lib.Dec.{ltb, eqb}
 use lib.ListN.{length, getD, set, replicate, length-set, getD-replicate}
 use lib.Seq.{getD-set-same, getD-set-other}
 use borrow.Author.Tests.{ltb-false, eqb-true, eq-eqb, ne-eqb}
-use Rattle.protocol.specs.Ops.{opPlanRecord, opBarrierRecord}
-use Rattle.protocol.specs.Format.{Record, planMark, recordsFrom, workersIn, isBarrier, isStep, known, rowIn, sizeIn, barrierCount}
+use Rattle.protocol.specs.Ops.{opPlanRecord, opBarrierRecord, opSleepRecord}
+use Rattle.protocol.specs.Format.{Record, planMark, recordsFrom, workersIn, isBarrier, isSleep, isStep, known, rowIn, sizeIn, barrierCount}
 use Rattle.protocol.specs.Refusals as protocol
-use Rattle.protocol.specs.Refusals.{anyOf, ruled, refuseIf, holds, checkRecords, recordRule, planRule, laterRule, wrongPlan, wrongBarrier, barrierRecordRule, stepRule}
+use Rattle.protocol.specs.Refusals.{anyOf, ruled, refuseIf, holds, checkRecords, recordRule, planRule, laterRule, wrongPlan, wrongBarrier, barrierRecordRule, sleepRecordRule, stepRule}
 use Rattle.protocol.specs.WellFormed.{PlanRecord}
 use Rattle.protocol.proofs.Bools.{or-left, or-right, or-false, or-fails}
 use Rattle.protocol.proofs.Lists.{length-recordsFrom}
-use Rattle.protocol.proofs.Records.{one as one-of, any-reaches, anyOf-one, topIn, lowIn, topIn-kept, topIn-raised, names-new, sizeIn-other, sizeIn-new}
+use Rattle.protocol.proofs.Records.{one as one-of, none-either, any-reaches, anyOf-one, topIn, lowIn, topIn-kept, topIn-raised, names-new, sizeIn-other, sizeIn-new}
 use Rattle.protocol.proofs.Taken.{rule-parts, plan-record, barrier-record, barrier-no-step}
 use Rattle.protocol.proofs.Prefix.{Read as PrefixRead, read-first, read-more}
 use Rattle.plan.specs.Answer.{bodyOf, recordOf, decodedOf}
 use Rattle.plan.specs.declared.decode.Record as decode
 use Rattle.plan.specs.declared.decode.Decoded.the-variants.{Read, Unmarked}
-use Rattle.plan.specs.Reading.{fileRecord, before, verdictFrom, RulesHold, refusesBarrier, BarriersSoFar}
+use Rattle.plan.specs.Reading.{fileRecord, before, verdictFrom, RulesHold, refusesBarrier, HeadSoFar}
 
 -- a record as the code has it
 abbrev pub Body : Type 0
@@ -138,6 +138,9 @@ module _ (file : List ℕ) (p : PlanRecord (fileRecord file 0)) where
   first-no-barrier : isBarrier (fileRecord file 0) ≡ false
   first-no-barrier = ap (λ (o : ℕ). eqb o opBarrierRecord) (p .op)
 
+  first-no-sleep : isSleep (fileRecord file 0) ≡ false
+  first-no-sleep = ap (λ (o : ℕ). eqb o opSleepRecord) (p .op)
+
   first-no-step : isStep (fileRecord file 0) ≡ false
   unfolding known rowIn
   first-no-step = ap known (p .op)
@@ -158,7 +161,8 @@ read file (suc (suc i)) h rules =
 
 -- the sizes so far, and the lowest barrier that may still come
 pub record BarriersAt (file : List ℕ) (i low : ℕ) (sizes : List ℕ) : Type 0 where
-  pub soFar : BarriersSoFar file i sizes
+  pub soFar : HeadSoFar file i sizes
+  pub noSleeper : anyOf isSleep (before file i) ≡ false
   pub lowest : lowIn (before file i) ≡ low
   pub bounded : low ≤ barrierCount
 
@@ -177,6 +181,7 @@ barriers-first file rules =
                 getD-replicate barrierCount b 0 0 h
                 ∙ sym (ap (λ (t : Bool). cond (t && eqb (r .register) b) (r .number) 0) (first-no-barrier file p));
           };
+      noSleeper = or-false (isSleep r) ∙ first-no-sleep file p;
       lowest = topIn-kept isBarrier (λ q. q .register) [] r (first-no-barrier file p);
       bounded = omega arith;
     }
@@ -189,9 +194,9 @@ module _ {file : List ℕ} {i low : ℕ} {sizes : List ℕ} {b : Body} (least : 
   unfolding laterRule barrierRecordRule
   barrier-rule =
       marked-rule file i least decoded
-      ∙ (ap (λ (o : ℕ). refuseIf (eqb o opPlanRecord) protocol.badPlan (cond (eqb o opBarrierRecord) (barrierRecordRule rs r) (stepRule rs r))) op
+      ∙ (ap (λ (o : ℕ). refuseIf (eqb o opPlanRecord) protocol.badPlan (cond (eqb o opBarrierRecord) (barrierRecordRule rs r) (cond (isSleep r) (sleepRecordRule rs r) (stepRule rs r)))) op
       ∙ ap (λ (t : Bool). refuseIf (t || wrongBarrier r) protocol.badBarrier holds)
-      (or-fails _ (at .soFar .noStep) ∙ (any-reaches isBarrier (λ q. q .register) (b .register) rs ∙ ap (λ (k : ℕ). ltb (b .register) k) (at .lowest))))
+      (or-fails _ (none-either isSleep isStep rs (at .noSleeper) (at .soFar .noStep)) ∙ (any-reaches isBarrier (λ q. q .register) (b .register) rs ∙ ap (λ (k : ℕ). ltb (b .register) k) (at .lowest))))
     where
       rs : List Record
       rs = before file i
@@ -232,6 +237,9 @@ module _ {file : List ℕ} {i low : ℕ} {sizes : List ℕ} {b : Body} (least : 
                       ∙ sym (ap (λ (l : List Record). sizeIn l n) more ∙ sizeIn-other (before file i) r n (names n (ne-eqb _ _ (λ p. q (sym p))))))
                 ];
               };
+          noSleeper =
+              ap (λ (l : List Record). anyOf isSleep l) more
+              ∙ (anyOf-one isSleep (before file i) r ∙ (ap (λ (t : Bool). t || isSleep r) (at .noSleeper) ∙ ap (λ (o : ℕ). eqb o opSleepRecord) op));
           lowest = ap lowIn more ∙ (topIn-raised isBarrier (λ q. q .register) (before file i) r barrier (omega arith) ∙ omega arith);
           bounded = omega arith;
         }

@@ -30,6 +30,7 @@ refusalOf refusal.SkipTooFar = protocol.skipTooFar
 refusalOf refusal.BadBuffer = protocol.badBuffer
 refusalOf refusal.TooManyTurns = protocol.tooManyTurns
 refusalOf refusal.BadTurn = protocol.badTurn
+refusalOf refusal.BadSleep = protocol.badSleep
 
 abbrev pub ruleAs : Rule → protocol.Rule
 ruleAs Holds = none

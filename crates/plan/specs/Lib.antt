@@ -2,6 +2,8 @@
 pub mod Answer
 -- The records up to an index, and what the reading of the barrier records takes and leaves.
 pub mod Reading
+-- What the reading of the sleep records takes and leaves.
+pub mod Sleeping
 -- What the reading of the steps takes and leaves.
 pub mod Stepping
 -- What the test of the skips takes.

@@ -26,12 +26,12 @@ verdictFrom file count i = protocol.checkRecords (before file i) (format.records
 abbrev pub RulesHold : List ℕ → ℕ → Type 0
 RulesHold file i = (k : ℕ) → k < i → protocol.recordRule (before file k) (fileRecord file k) ≡ protocol.holds
 
--- whether a barrier record is refused, where the next barrier's number is at least low and there is no step before it
+-- whether a barrier record is refused, where the next barrier's number is at least low and neither a sleep record nor a step stands before it
 abbrev pub refusesBarrier : ℕ → Record → Bool
 refusesBarrier low r = ltb (r .register) low || protocol.wrongBarrier (recordOf r)
 
--- the records before record i are the plan record and barrier records, which give the sizes
-pub record BarriersSoFar (file : List ℕ) (i : ℕ) (sizes : List ℕ) : Type 0 where
+-- the records before record i are no steps, and give the sizes
+pub record HeadSoFar (file : List ℕ) (i : ℕ) (sizes : List ℕ) : Type 0 where
   pub rules : RulesHold file i
   pub noStep : protocol.anyOf format.isStep (before file i) ≡ false
   pub size : length sizes ≡ format.barrierCount
@@ -41,5 +41,6 @@ pub record BarriersRead (file : List ℕ) (count : ℕ) (r : Barriers) : Type 0 
   pub least : 1 ≤ r .next
   pub most : r .next ≤ count
   pub verdict : both (verdictOf (r .verdict)) (verdictFrom file count (r .next)) ≡ verdictFrom file count 1
-  pub barriers : BarriersSoFar file (r .next) (r .sizes)
+  pub head : HeadSoFar file (r .next) (r .sizes)
+  pub noSleeper : protocol.anyOf format.isSleep (before file (r .next)) ≡ false
   pub noBarrier : verdictOf (r .verdict) ≡ protocol.accepted → r .next < count → format.isBarrier (fileRecord file (r .next)) ≡ false

@@ -17,6 +17,7 @@ pub enum Refusal {
     BadBuffer,
     TooManyTurns,
     BadTurn,
+    BadSleep,
 }
 
 // What one rule says: the reading goes on, or it ends with a refusal.
@@ -49,6 +50,7 @@ pub fn number(f: Refusal) -> u32
         Refusal::BadBuffer => 11,
         Refusal::TooManyTurns => 12,
         Refusal::BadTurn => 13,
+        Refusal::BadSleep => 14,
     }
 }
 

@@ -6,7 +6,9 @@ use crate::decode::Decoded;
 use crate::decode::Record;
 use crate::decode::decode;
 use crate::skips::check_skips;
+use crate::sleepers::read_sleepers;
 use crate::steps::read_steps;
+use format::fates::GOING;
 use format::limits::BARRIER_COUNT;
 use format::limits::FILE_LIMIT;
 use format::limits::RECORD_LENGTH;
@@ -17,11 +19,13 @@ ghost use Rattle.protocol.specs.Refusals.{wrongLength, wrongPlan};
 ghost use Rattle.plan.specs.Answer.{recordOf};
 ghost use Rattle.plan.specs.Checking.{CheckedAs};
 
-// What a run needs of an accepted file: the number of workers, the barriers' sizes, and where each worker's steps begin.
+// What a run needs of an accepted file: the number of workers, the barriers' sizes, where each worker's steps begin, and the codes of the fates
+// at first.
 pub struct Layout {
     pub workers: u8,
     pub sizes: [u8; BARRIER_COUNT],
     pub firsts: [usize; WORKERS_LIMIT + 1],
+    pub fates: [u64; WORKERS_LIMIT],
 }
 
 pub struct Checked {
@@ -68,6 +72,7 @@ fn refused(f: Refusal, i: usize) -> Checked
             workers: 0,
             sizes: [0u8; BARRIER_COUNT],
             firsts: [0usize; WORKERS_LIMIT + 1],
+            fates: [GOING; WORKERS_LIMIT],
         },
     }
 }
@@ -93,13 +98,19 @@ pub fn check(file: &[u8]) -> Checked
         return refused(f, i);
     }
     let sizes = barriers.sizes;
+    let mut fates = [GOING; WORKERS_LIMIT];
+    let sleepers = read_sleepers(file, count, first.worker, barriers.next, &mut fates);
+    let verdict = sleepers.verdict;
+    if let Verdict::Refused(f, i) = verdict {
+        return refused(f, i);
+    }
     let mut firsts = [0usize; WORKERS_LIMIT + 1];
     let verdict = read_steps(
         file,
         count,
         first.worker,
         &sizes,
-        barriers.next,
+        sleepers.next,
         &mut firsts,
     );
     if let Verdict::Refused(f, i) = verdict {
@@ -110,6 +121,7 @@ pub fn check(file: &[u8]) -> Checked
         workers: first.worker,
         sizes,
         firsts,
+        fates,
     };
     Checked { verdict, layout }
 }

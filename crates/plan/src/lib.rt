@@ -4,4 +4,5 @@ pub mod barriers;
 pub mod check;
 pub mod decode;
 pub mod skips;
+pub mod sleepers;
 pub mod steps;

@@ -64,7 +64,7 @@ fn steps_read(firsts: &[usize; WORKERS_LIMIT + 1], opened: usize, worker: usize,
     0
 }
 
-// The refusal of a record behind the barrier records whose op has no row.
+// The refusal of a record behind the sleep records whose op has no row.
 fn no_step(op: u8) -> Refusal
     ensures { λ f. ⌜ refusalOf f ≡ noStep op ⌝ }
 {
@@ -74,22 +74,35 @@ fn no_step(op: u8) -> Refusal
     if op == ops::BARRIER_RECORD {
         return Refusal::BadBarrier;
     }
+    if op == ops::SLEEP_RECORD {
+        return Refusal::BadSleep;
+    }
     Refusal::BadOp
 }
 
-// The rule of a step's operands, whose op has the row.
-fn operand_rule(row: Row, r: Record, sizes: &[u8; BARRIER_COUNT]) -> Rule
+// The rule of a step's operands, whose op has the row: what the row says, and what the plan says, with n workers and these barriers.
+fn operand_rule(row: Row, r: Record, n: usize, sizes: &[u8; BARRIER_COUNT]) -> Rule
     requires { ⌜ limitsFor (r .op) ≡ some row ⌝ }
-    ensures { λ s. ⌜ ruleAs s ≡ keptOperandRule (now (sizes .entry)) r ⌝ }
+    ensures { λ s. ⌜ ruleAs s ≡ keptOperandRule n (now (sizes .entry)) r ⌝ }
 {
     let number = r.number;
     if outside(row, r.register, number) {
         return Rule::Refuses(Refusal::BadOperand);
     }
+    // Most steps are told by this test alone.
+    if r.op < ops::BARRIER {
+        return Rule::Holds;
+    }
+    let at = number as usize;
     if r.op == ops::BARRIER {
-        let at = number as usize;
         if sizes[at] == 0 {
             return Rule::Refuses(Refusal::NoSize);
+        }
+        return Rule::Holds;
+    }
+    if r.op == ops::START {
+        if n <= at {
+            return Rule::Refuses(Refusal::BadOperand);
         }
     }
     Rule::Holds
@@ -118,7 +131,7 @@ fn step_rule(
     if STEPS_LIMIT <= steps_read(firsts, opened, worker, i) {
         return Rule::Refuses(Refusal::TooManySteps);
     }
-    operand_rule(row, r, sizes)
+    operand_rule(row, r, n, sizes)
 }
 
 // The steps of the workers from `opened` up to `worker` begin at record i.

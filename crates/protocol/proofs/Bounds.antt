@@ -16,9 +16,9 @@ use Rattle.protocol.specs.Turns.{workersOf, start, play}
 use Rattle.protocol.specs.RoundRun.{total, stepCount, moveLimit}
 use Rattle.protocol.specs.Demands.{occurs}
 use Rattle.protocol.proofs.Sound.{Sound}
-use Rattle.protocol.proofs.Invariant.{sumOf, waits, gone, placeOf, Core, Inv}
-use Rattle.protocol.proofs.Counting.{occurs-same, occurs-append, occurs-kept, occurs-dropped, sum-mono}
-use Rattle.protocol.proofs.OwnMoves.{one-fate, waiter-exists}
+use Rattle.protocol.proofs.Invariant.{sumOf, waits, rests, gone, placeOf, Core, Inv}
+use Rattle.protocol.proofs.Counting.{occurs-same, occurs-append, occurs-kept, occurs-dropped, sum-mono, occurs-other}
+use Rattle.protocol.proofs.OwnMoves.{one-fate, idler-exists}
 use Rattle.protocol.proofs.Laws.{start-inv}
 use Rattle.protocol.proofs.Obeys.{play-inv}
 
@@ -84,9 +84,9 @@ pigeons (suc n) ws f g =
     above w l (yes e) = occurs-dropped (λ v. not (eqb n v)) w ws (rw (eq-eqb n w e))
     above w l (no ne) = omega (arith, occurs-kept (λ v. not (eqb n v)) w ws (rw (ne-eqb n w ne)), g w (omega arith))
 
--- each worker stands in one list, or has left; and nobody else stands anywhere
+-- each worker stands in one list, or sleeps, or has left; and nobody else stands anywhere
 pub placed-once : (plan : Plan) (s : State) (w : ℕ) → Core plan s → w < workersOf plan
-    → occurs w (s .list) + occurs w (s .next) + occurs w (s .waiting) + gone (workerAt s w .fate) ≡ 1
+    → occurs w (s .list) + occurs w (s .next) + occurs w (s .waiting) + rests (workerAt s w .fate) + gone (workerAt s w .fate) ≡ 1
 placed-once plan s w c l = omega (arith, c .stands w .inside l, c .stands w .queued, one-fate (workerAt s w .fate))
 
 pub placed-none : (plan : Plan) (s : State) (w : ℕ) → Core plan s → workersOf plan ≤ w
@@ -94,8 +94,11 @@ pub placed-none : (plan : Plan) (s : State) (w : ℕ) → Core plan s → worker
 placed-none plan s w c l = go (decLt 0 (waits (workerAt s w .fate)))
   where
     go : Dec (0 < waits (workerAt s w .fate)) → occurs w (s .list) + occurs w (s .next) + occurs w (s .waiting) ≡ 0
-    go (yes k) = absurd (omega (arith, waiter-exists plan s w c k))
+    go (yes k) = absurd (omega (arith, idler-exists plan s w c (omega arith)))
     go (no nk) = omega (arith, c .stands w .outside l, c .stands w .queued)
+
+lists-occur : (s : State) (w : ℕ) → occurs w (s .list ++ s .next ++ s .waiting) ≡ occurs w (s .list) + occurs w (s .next) + occurs w (s .waiting)
+lists-occur s w = simp occurs-append
 
 -- "the three lists together hold at most n workers"
 pub lists-bound : (plan : Plan) (s : State) → Core plan s → length (s .list) + length (s .next) + length (s .waiting) ≤ workersOf plan
@@ -104,15 +107,30 @@ lists-bound plan s c =
       arith,
       length-append (s .list) (s .next),
       length-append (s .list ++ s .next) (s .waiting),
-      pigeons (workersOf plan) (s .list ++ s .next ++ s .waiting) (λ w. most w (decLt w (workersOf plan))) (λ w l. rw (all w) (placed-none plan s w c l)),
+      pigeons (workersOf plan) (s .list ++ s .next ++ s .waiting) (λ w. most w (decLt w (workersOf plan))) (λ w l. rw (lists-occur s w) (placed-none plan s w c l)),
     )
   where
-    all : (w : ℕ) → occurs w (s .list ++ s .next ++ s .waiting) ≡ occurs w (s .list) + occurs w (s .next) + occurs w (s .waiting)
-    all w = simp occurs-append
-
     most : (w : ℕ) → Dec (w < workersOf plan) → occurs w (s .list ++ s .next ++ s .waiting) ≤ 1
-    most w (yes l) = omega (arith, all w, placed-once plan s w c l)
-    most w (no nl) = omega (arith, all w, placed-none plan s w c (omega arith))
+    most w (yes l) = omega (arith, lists-occur s w, placed-once plan s w c l)
+    most w (no nl) = omega (arith, lists-occur s w, placed-none plan s w c (omega arith))
+
+-- .. and one fewer while one of them sleeps
+pub spare-bound : (plan : Plan) (s : State) (v : ℕ) → Core plan s → v < workersOf plan → rests (workerAt s v .fate) ≡ 1
+    → length (s .list) + length (s .next) + length (s .waiting) < workersOf plan
+spare-bound plan s v c h z =
+    omega (
+      arith,
+      length-append (s .list) (s .next),
+      length-append (s .list ++ s .next) (s .waiting),
+      pigeons (workersOf plan) (v ∷ (s .list ++ s .next ++ s .waiting)) (λ w. most w (decLt w (workersOf plan)) (ℕ-discrete w v))
+          (λ w l. omega (arith, occurs-other w v (s .list ++ s .next ++ s .waiting) (λ e. omega arith), lists-occur s w, placed-none plan s w c l)),
+    )
+  where
+    most : (w : ℕ) → Dec (w < workersOf plan) → Dec (w ≡ v) → occurs w (v ∷ (s .list ++ s .next ++ s .waiting)) ≤ 1
+    most w l (yes e) =
+        rw e (omega (arith, occurs-same v (s .list ++ s .next ++ s .waiting), lists-occur s v, placed-once plan s v c h))
+    most w (yes l) (no ne) = omega (arith, occurs-other w v (s .list ++ s .next ++ s .waiting) ne, lists-occur s w, placed-once plan s w c l)
+    most w (no nl) (no ne) = omega (arith, occurs-other w v (s .list ++ s .next ++ s .waiting) ne, lists-occur s w, placed-none plan s w c (omega arith))
 
 -- All that the code counts, within a sound plan.
 pub record Bounded (plan : Plan) (s : State) : Type 0 where

@@ -7,17 +7,18 @@ use mathlib.Core.Bool.{Bool, true, false, _||_}
 use mathlib.Core.Path.{_≡_, refl, sym, ap, _∙_, subst, subst⁻¹}
 use mathlib.Core.List.{List, [], _∷_}
 use lib.Dec.{eqb}
-use lib.ListN.{length, getD, set, replicate}
+use lib.ListN.{length, getD, set}
 use lib.Seq.{getD-set-same, getD-set-other}
 use borrow.Author.Tests.{eq-eqb, ne-eqb}
 use Rattle.protocol.specs.Format.{Own, Step, own, sync, Sync, Plan}
 use Rattle.protocol.specs.Steps.{Worker, newWorker, arrivedAs, ownStep}
-use Rattle.protocol.specs.Rounds.{State, workerAt, ownMove, arrival, member, syncMove, newRound, Ruling, ruleOf, queueOf}
+use Rattle.protocol.specs.Rounds.{State, workerAt, ownMove, arrival, member, syncMove, newRound, Ruling, ruleOf, queueOf, fateIn}
 use Rattle.protocol.specs.Turns.{workersOf, start, allArrived, can, move, closed, closing, ended, noneLeft, behind}
 use Rattle.protocol.specs.RoundRun.{moveLimit, stepNow, runUp, fence, holderStep, token, oneRound, roundsFrom, roundRun}
 use Rattle.protocol.specs.Demands.{occurs}
 use Rattle.protocol.proofs.Bools.{or-false, or-holds}
 use Rattle.protocol.proofs.Obeys.{machine}
+use Rattle.protocol.proofs.Laws.{start-worker}
 use Rattle.protocol.proofs.Confluence.{Run, here, via, joined, Laws, run-kept, run-falls}
 use Rattle.protocol.proofs.Invariant.{measure, Core, Inv}
 use Rattle.protocol.proofs.OwnMoves.{listed, own-leaves}
@@ -141,14 +142,9 @@ record Rounded (plan : Plan) (s t : State) : Type 0 where
   run : Run (machine plan) s t (suc moves)
   fresh : Fresh t
 
-replicate-at : (n v : ℕ) (x : Worker) → getD (replicate n x) v x ≡ x
-replicate-at zero v x = refl
-replicate-at (suc n) zero x = refl
-replicate-at (suc n) (suc v) x = replicate-at n v x
-
 fresh-start : (plan : Plan) (memory : List ℕ) → Fresh (start plan memory)
-unfolding start newWorker
-fresh-start plan memory v o = ap (λ (x : Worker). x .arrived) (replicate-at (workersOf plan) v newWorker)
+unfolding newWorker
+fresh-start plan memory v o = start-worker plan memory v (λ x. x .arrived ≡ false) (λ l. refl) (λ l. refl)
 
 -- a run of moves to the end
 pub record Ends (plan : Plan) (s t : State) : Type 0 where
@@ -253,7 +249,7 @@ module _ (plan : Plan) (laws : Laws (machine plan) (Inv plan) (workersOf plan)) 
         t = syncMove plan y h rest s
 
         r : Ruling
-        r = ruleOf plan (queueOf s) (workerAt s h .held) y
+        r = ruleOf plan (queueOf s) (fateIn s) (workerAt s h .held) y
 
         law : Lawful plan s h r
         law = rule-lawful plan s h y (i .core) (listed plan s h (i .core) first) q

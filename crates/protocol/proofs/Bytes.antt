@@ -9,7 +9,7 @@ use Rattle.protocol.specs.Format.{word, Plan, planOf}
 use Rattle.protocol.specs.Refusals.{Verdict, accepted}
 use Rattle.protocol.specs.Rounds.{State}
 use Rattle.protocol.specs.Turns.{ended}
-use Rattle.protocol.specs.Report.{finished, stuck, underWay, allLeft, endOf, endNumber, reportBytes}
+use Rattle.protocol.specs.Report.{finished, stuck, underWay, allFinal, endOf, endNumber, reportBytes}
 use Rattle.protocol.specs.Calls.{Buffers, buffersOf, lentLog, playedFrom, replyOf, runVerdict, run}
 use Rattle.protocol.specs.Demands.{Demand3, Demand3Bytes}
 use Rattle.protocol.proofs.Sound.{Sound}
@@ -25,7 +25,7 @@ word-bytes k h = omega arith
 -- the report's first byte
 end-byte : (s : State) → ended s ≡ true → endNumber (endOf s) ≡ 0 → ⊥
 unfolding endOf
-end-byte s e z = go (allLeft (s .workers)) (sym (ap (λ (b : Bool). endNumber (cond b (cond (allLeft (s .workers)) finished stuck) underWay)) e) ∙ z)
+end-byte s e z = go (allFinal (s .workers)) (sym (ap (λ (b : Bool). endNumber (cond b (cond (allFinal (s .workers)) finished stuck) underWay)) e) ∙ z)
   where
     go : (b : Bool) → endNumber (cond b finished stuck) ≡ 0 → ⊥
     go true z = omega arith
@@ -37,7 +37,7 @@ ended-byte s h = go (ended s) refl
   where
     go : (b : Bool) → ended s ≡ b → ended s ≡ true
     go true e = e
-    go false e = absurd (h (ap (λ (b : Bool). endNumber (cond b (cond (allLeft (s .workers)) finished stuck) underWay)) e))
+    go false e = absurd (h (ap (λ (b : Bool). endNumber (cond b (cond (allFinal (s .workers)) finished stuck) underWay)) e))
 
 -- what the buffers hold of the state that a list of turns leaves
 left-bytes : (plan : Plan) → Sound plan → (memory turns : List ℕ) → Demand3Bytes plan memory turns (buffersOf (playedFrom plan memory turns))

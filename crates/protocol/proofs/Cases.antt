@@ -1,21 +1,21 @@
--- Cases 1 to 10: the definitions yield the table.
+-- Cases 1 to 10 and those behind them: the definitions yield the table.
 use mathlib.Core.Path.{_≡_, refl}
 use mathlib.Core.List.{map}
-use Rattle.protocol.specs.Format.{recordFrom, recordsFrom, recordCount, records, rowIn, known, stepOf, sizeIn, stepsIn, countFrom, planIn}
-use Rattle.protocol.specs.Refusals.{anyOf, lengthRule, planRule, barrierRecordRule, operandsOutside, stepRule, laterRule, recordRule, skipRule, checkSkips, checkRecords, check}
+use Rattle.protocol.specs.Format.{recordFrom, recordsFrom, recordCount, records, rowIn, known, stepOf, sizeIn, sleepersIn, stepsIn, countFrom, planIn}
+use Rattle.protocol.specs.Refusals.{anyOf, lengthRule, planRule, barrierRecordRule, sleepRecordRule, operandsOutside, stepRule, laterRule, recordRule, skipRule, checkSkips, checkRecords, check}
 use Rattle.protocol.specs.Pages.{page, noCopies, loadByte, loadWord, storeByte, storeWord, commitFrom}
 use Rattle.protocol.specs.Steps.{newWorker, ownStep}
 use Rattle.protocol.specs.Rounds.{keep, queueOf, ruleOf, member, freed, apply, newRound}
 use Rattle.protocol.specs.Turns.{start, allArrived, can, move, turn, play}
 use Rattle.protocol.specs.RoundRun.{total, runUp, fence, token, roundsFrom}
-use Rattle.protocol.specs.Report.{logBytes, allLeft, endOf, fateByte, reportBytes}
+use Rattle.protocol.specs.Report.{logBytes, allFinal, endOf, fateByte, reportBytes}
 use Rattle.protocol.specs.Calls.{runVerdict, lentLog, run}
 use Rattle.protocol.specs.Listing.{cycles}
 use Rattle.protocol.proofs.Table.{turnsOf, padded, lentTo, yields, expected, expects, cases}
 
 pub cases-hold : map yields cases ≡ map expects cases
-unfolding recordFrom recordsFrom recordCount records rowIn known stepOf sizeIn stepsIn countFrom planIn anyOf lengthRule planRule barrierRecordRule
-    operandsOutside stepRule laterRule recordRule skipRule checkSkips checkRecords check page noCopies loadByte loadWord storeByte storeWord
+unfolding recordFrom recordsFrom recordCount records rowIn known stepOf sizeIn sleepersIn stepsIn countFrom planIn anyOf lengthRule planRule
+    barrierRecordRule sleepRecordRule operandsOutside stepRule laterRule recordRule skipRule checkSkips checkRecords check page noCopies loadByte loadWord storeByte storeWord
     commitFrom newWorker ownStep keep queueOf ruleOf member freed apply newRound start allArrived can move turn play total runUp fence token
-    roundsFrom logBytes allLeft endOf fateByte reportBytes runVerdict lentLog run cycles turnsOf padded lentTo yields expected expects cases
+    roundsFrom logBytes allFinal endOf fateByte reportBytes runVerdict lentLog run cycles turnsOf padded lentTo yields expected expects cases
 cases-hold = refl

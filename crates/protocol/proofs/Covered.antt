@@ -9,16 +9,17 @@ use native.Mathlib.Omega.{arith}
 use lib.Dec.{leb, ltb, eqb}
 use lib.ListN.{length, getD, take, List·getD-append}
 use lib.Seq.{getD-append-seam, take-append-seam}
-use borrow.Author.Tests.{ltb-true, ltb-false, leb-true, leb-false, eqb-true, eqb-false, not-true, not-false, lt-ltb, le-ltb, le-leb, lt-leb, eq-eqb}
-use Rattle.protocol.specs.Ops.{opBarrier}
-use Rattle.protocol.specs.Format.{Record, Row, planMark, rowIn, rowOf, known, isBarrier, isStep, workersIn, stepsIn, barrierCount, sizeLimit, stepsLimit, workersLimit}
-use Rattle.protocol.specs.Refusals.{Refusal, badMark, badPlan, badBarrier, badWorker, badOp, badOperand, tooManySteps, noSize, Verdict, accepted, Rule, holds, refuseIf, ruled, anyOf}
-use Rattle.protocol.specs.Refusals.{outside, wrongPlan, planRule, wrongBarrier, wrongOperand, wrongWorker, lacksSize, barrierRecordRule, operandsOutside, stepRule, laterRule, recordRule}
-use Rattle.protocol.specs.WellFormed.{blank, PlanRecord, BarrierRecord}
-use Rattle.protocol.specs.Conditions.{NoMark, Before, BarrierAmiss, UnknownOp, WorkerAmiss, StepBeyond, OperandOutside, SizeMissing, Test, test, testsOf, recordTests, FirstDue}
-use Rattle.protocol.proofs.Bools.{split, or-left, or-right, and-left, and-right}
+use borrow.Author.Tests.{ltb-true, ltb-false, leb-true, leb-false, eqb-true, eqb-false, not-true, not-false, lt-ltb, le-ltb, le-leb, lt-leb, eq-eqb, ne-eqb}
+use Rattle.protocol.specs.Ops.{opBarrier, opStart}
+use Rattle.protocol.specs.Format.{Record, Row, planMark, rowIn, rowOf, known, isBarrier, isSleep, isStep, workersIn, stepsIn, barrierCount, sizeLimit, stepsLimit, workersLimit}
+use Rattle.protocol.specs.Refusals.{Refusal, badMark, badPlan, badBarrier, badSleep, badWorker, badOp, badOperand, tooManySteps, noSize, Verdict, accepted, Rule, holds, refuseIf, ruled, anyOf}
+use Rattle.protocol.specs.Refusals.{outside, wrongPlan, planRule, misplaced, isBehindBarriers, wrongBarrier, wrongSleep, startsNobody, wrongOperand, wrongWorker, lacksSize, barrierRecordRule}
+use Rattle.protocol.specs.Refusals.{sleepRecordRule, operandsOutside, stepRule, laterRule, recordRule}
+use Rattle.protocol.specs.WellFormed.{blank, PlanRecord, BarrierRecord, SleepRecord}
+use Rattle.protocol.specs.Conditions.{NoMark, Before, BarrierAmiss, SleepAmiss, UnknownOp, WorkerAmiss, StepBeyond, OperandOutside, SizeMissing, Test, test, testsOf, recordTests, FirstDue}
+use Rattle.protocol.proofs.Bools.{split, or-holds, or-left, or-right, and-left, and-right}
 use Rattle.protocol.proofs.Records.{one, names}
-use Rattle.protocol.proofs.Taken.{barrier-no-step, none-of, plan-record, barrier-record}
+use Rattle.protocol.proofs.Taken.{barrier-no-step, sleep-no-step, plan-record, barrier-record, sleep-record}
 
 pub nothing-due : FirstDue [] accepted
 unfolding FirstDue
@@ -79,17 +80,29 @@ pub row-known : (o : ℕ) (x : Row) → rowOf o ≡ some x → known o ≡ true
 unfolding known
 row-known o x e = ap (λ (y : Option Row). elim y [ none ↦ false | some z ↦ true ]) e
 
--- operands that are in the ranges of their row
-pub operands-inside : (r : Record) (x : Row) → rowOf (r .op) ≡ some x → wrongOperand r ≡ false
-    → (r .register ≤ x .registers) × (x .least ≤ r .number) × (r .number ≤ x .most)
+pub start-known : (r : Record) → r .op ≡ opStart → isStep r ≡ true
+unfolding known rowIn
+start-known r e = ap known e
+
+-- operands that are in the ranges of their row, and a start that names one of n workers
+pub record Inside (n : ℕ) (r : Record) (x : Row) : Type 0 where
+  pub register : r .register ≤ x .registers
+  pub least : x .least ≤ r .number
+  pub most : r .number ≤ x .most
+  pub target : r .op ≡ opStart → r .number < n
+
+pub operands-inside : (n : ℕ) (r : Record) (x : Row) → rowOf (r .op) ≡ some x → wrongOperand n r ≡ false → Inside n r x
 unfolding operandsOutside
-operands-inside r x row e =
-    let t = ap (λ (o : Option Row). operandsOutside o (r .register) (r .number)) (sym row) ∙ e in
-    let u = or-right (ltb (x .registers) (r .register)) t in (
-      ltb-false (x .registers) (r .register) (or-left (ltb (x .registers) (r .register)) _ t),
-      ltb-false (r .number) (x .least) (or-left (ltb (r .number) (x .least)) _ u),
-      ltb-false (x .most) (r .number) (or-right (ltb (r .number) (x .least)) u),
-    )
+operands-inside n r x row e =
+    let ranges = operandsOutside (rowOf (r .op)) (r .register) (r .number) in
+    let t = ap (λ (o : Option Row). operandsOutside o (r .register) (r .number)) (sym row) ∙ or-left ranges (startsNobody n r) e in
+    let u = or-right (ltb (x .registers) (r .register)) t in
+    record {
+      register = ltb-false (x .registers) (r .register) (or-left (ltb (x .registers) (r .register)) _ t);
+      least = ltb-false (r .number) (x .least) (or-left (ltb (r .number) (x .least)) _ u);
+      most = ltb-false (x .most) (r .number) (or-right (ltb (r .number) (x .least)) u);
+      target = λ s. leb-false n (r .number) (sym (ap (λ (b : Bool). b && leb n (r .number)) (eq-eqb _ _ s)) ∙ or-right ranges e);
+    }
 
 mark-due : (r : Record) → not (eqb (r .mark) planMark) ≡ true → NoMark r
 mark-due r e = eqb-false (r .mark) planMark (not-true _ e)
@@ -105,7 +118,7 @@ module _ (rs : List Record) (i : ℕ) (r : Record) where
       test badOp i (UnknownOp r)
       ∷ test badWorker i (WorkerAmiss rs i r)
       ∷ test tooManySteps i (StepBeyond rs i r)
-      ∷ test badOperand i (OperandOutside r)
+      ∷ test badOperand i (OperandOutside rs r)
       ∷ test noSize i (SizeMissing rs i r)
       ∷ []
 
@@ -114,7 +127,7 @@ module _ (rs : List Record) (i : ℕ) (r : Record) where
       passes-by named
       (passes-by (λ (d : WorkerAmiss rs i r). false≢true (sym unknown ∙ d .0))
       (passes-by (λ (d : StepBeyond rs i r). false≢true (sym unknown ∙ d .0))
-      (passes-by (λ (d : OperandOutside r). false≢true (sym unknown ∙ row-known (r .op) (d .0) (d .1)))
+      (passes-by (λ (d : OperandOutside rs r). false≢true (sym unknown ∙ ⊎-elim (λ x. row-known (r .op) (x .0) (x .1)) (λ x. start-known r (x .0)) d))
       (passes-by (λ (d : SizeMissing rs i r). other (d .0)) (covers-none i)))))
 
 -- the first record
@@ -129,7 +142,8 @@ first-covers behind r =
     (λ e.
     let op = plan-record r e .op in
     passes-by (λ (d : BarrierAmiss (r ∷ behind) 0 r). false≢true (sym (ap (λ (o : ℕ). eqb o 1) op) ∙ d .0))
-    (no-step (r ∷ behind) 0 r (ap known op) (λ d. d .0 op) (λ q. let z = sym op ∙ q in omega arith))))
+    (passes-by (λ (d : SleepAmiss (r ∷ behind) 0 r). false≢true (sym (ap (λ (o : ℕ). eqb o 2) op) ∙ d .0))
+    (no-step (r ∷ behind) 0 r (ap known op) (λ d. d .0 op) (λ q. let z = sym op ∙ q in omega arith)))))
   where
     whole : PlanRecord r → wrongPlan r ≡ false
     whole p =
@@ -156,41 +170,72 @@ module _ (q : Record) (qs behind : List Record) (r : Record) where
       false≢true
       (sym (any-none t taken blank e (h .0) (h .1)) ∙ f _ (subst P (List·getD-append taken (r ∷ behind) blank (h .0) (h .1)) (h .2)))
 
+  -- a record before the steps, of some kind, which ascends by a number and stands before those of later kinds
+  module _ (kind : Record → Bool) (number : Record → ℕ) (later : Record → Bool) (Later : Record → Type 0) (wrong : Bool) (Whole : Type 0) where
+    abbrev higher : Record → Bool
+    higher p = kind p && leb (number r) (number p)
+
+    abbrev Higher : Record → Type 0
+    Higher p = (kind p ≡ true) × (number r ≤ number p)
+
+    abbrev Amiss : Type 0
+    Amiss = Before all index Higher ⊎ (Before all index Later ⊎ (Whole → ⊥))
+
+    head-due : ((p : Record) → later p ≡ true → Later p) → (Whole → wrong ≡ false) → misplaced kind number later taken r || wrong ≡ true → Amiss
+    head-due there whole e =
+        ⊎-elim
+        (λ h.
+        ⊎-elim (λ m. inl (found higher Higher (λ p t. (and-left (kind p) _ t, leb-true _ _ (and-right (kind p) _ t))) m))
+        (λ s. inr (inl (found later Later there s)))
+        (or-cases (anyOf higher taken) (anyOf later taken) h))
+        (λ w. inr (inr (λ f. absurd (false≢true (sym (whole f) ∙ w)))))
+        (or-cases (misplaced kind number later taken r) wrong e)
+
+    head-right : ((p : Record) → Later p → later p ≡ true) → (wrong ≡ false → Whole) → misplaced kind number later taken r || wrong ≡ false → Amiss → ⊥
+    head-right there whole e =
+        let t = or-left (misplaced kind number later taken r) wrong e in
+        ⊎-elim (missing higher Higher (λ p h. and-true (h .0) (le-leb _ _ (h .1))) (or-left (anyOf higher taken) (anyOf later taken) t))
+        (⊎-elim (missing later Later there (or-right (anyOf higher taken) t)) (λ amiss. amiss (whole (or-right (misplaced kind number later taken r) e))))
+
   -- a barrier record
-  abbrev higher : Record → Bool
-  higher p = isBarrier p && leb (r .register) (p .register)
-
   abbrev barrierTest : Bool
-  barrierTest = anyOf higher taken || anyOf isStep taken || wrongBarrier r
+  barrierTest = misplaced isBarrier (λ p. p .register) isBehindBarriers taken r || wrongBarrier r
 
-  in-range : BarrierRecord r → wrongBarrier r ≡ false
-  in-range b =
+  abbrev Behind : Record → Type 0
+  Behind p = (isSleep p ≡ true) ⊎ (isStep p ≡ true)
+
+  barrier-whole : BarrierRecord r → wrongBarrier r ≡ false
+  barrier-whole b =
       simp (eq-eqb _ _ (b .worker), lt-leb barrierCount (r .register) (b .barrier), le-ltb (r .number) 1 (b .least), le-ltb sizeLimit (r .number) (b .most))
 
-  abbrev Higher : Record → Type 0
-  Higher p = (isBarrier p ≡ true) × (r .register ≤ p .register)
-
-  higher-due : (p : Record) → higher p ≡ true → Higher p
-  higher-due p e = (and-left (isBarrier p) _ e, leb-true _ _ (and-right (isBarrier p) _ e))
-
-  higher-test : (p : Record) → Higher p → higher p ≡ true
-  higher-test p h = and-true (h .0) (le-leb _ _ (h .1))
-
   barrier-due : isBarrier r ≡ true → barrierTest ≡ true → BarrierAmiss all index r
-  barrier-due b e = (
-    b,
-    ⊎-elim
-        (λ h. ⊎-elim (λ m. inl (found higher Higher higher-due m)) (λ s. inr (inl (found isStep (λ p. isStep p ≡ true) (λ p t. t) s)))
-        (or-cases (anyOf higher taken) (anyOf isStep taken) h))
-        (λ w. inr (inr (λ f. absurd (false≢true (sym (in-range f) ∙ w)))))
-        (or-cases (anyOf higher taken || anyOf isStep taken) (wrongBarrier r) e),
-  )
+  barrier-due b e =
+      (b, head-due isBarrier (λ p. p .register) isBehindBarriers Behind (wrongBarrier r) (BarrierRecord r) (λ p t. or-cases (isSleep p) (isStep p) t) barrier-whole e)
 
   barrier-right : isBarrier r ≡ true → barrierTest ≡ false → BarrierAmiss all index r → ⊥
   barrier-right b e h =
-      let t = none-of (anyOf higher taken) (anyOf isStep taken) (wrongBarrier r) e in
-      ⊎-elim (missing higher Higher higher-test (t .0))
-      (⊎-elim (missing isStep (λ p. isStep p ≡ true) (λ p s. s) (t .1)) (λ amiss. amiss (barrier-record r b (t .2))))
+      head-right isBarrier (λ p. p .register) isBehindBarriers Behind (wrongBarrier r) (BarrierRecord r)
+      (λ p. ⊎-elim (λ s. ap (λ (t : Bool). t || isStep p) s) (λ s. or-holds (isSleep p) s))
+      (barrier-record r b)
+      e
+      (h .1)
+
+  -- a sleep record
+  abbrev sleepTest : Bool
+  sleepTest = misplaced isSleep (λ p. p .worker) isStep taken r || wrongSleep (workersIn taken) r
+
+  sleep-whole : SleepRecord (workersIn taken) r → wrongSleep (workersIn taken) r ≡ false
+  sleep-whole s =
+      simp (ne-eqb (r .worker) 0 (λ z. let l = s .least in omega arith), lt-leb (workersIn taken) (r .worker) (s .most), eq-eqb _ _ (s .register), eq-eqb _ _ (s .number))
+
+  sleep-due : isSleep r ≡ true → sleepTest ≡ true → SleepAmiss all index r
+  sleep-due s e = (s, head-due isSleep (λ p. p .worker) isStep (λ p. isStep p ≡ true) (wrongSleep (workersIn taken) r) (SleepRecord (workersIn taken) r) (λ p t. t) sleep-whole e)
+
+  sleep-right : isSleep r ≡ true → sleepTest ≡ false → SleepAmiss all index r → ⊥
+  sleep-right s e h =
+      head-right isSleep (λ p. p .worker) isStep (λ p. isStep p ≡ true) (wrongSleep (workersIn taken) r) (SleepRecord (workersIn taken) r) (λ p t. t)
+      (sleep-record (workersIn taken) r s)
+      e
       (h .1)
 
   -- a step
@@ -218,11 +263,12 @@ module _ (q : Record) (qs behind : List Record) (r : Record) where
   counted : length (stepsIn taken (r .worker)) ≡ length (stepsIn (take index all) (r .worker))
   counted = ap (λ (rs : List Record). length (stepsIn rs (r .worker))) (sym (take-append-seam taken (r ∷ behind)))
 
-  operand-due : isStep r ≡ true → wrongOperand r ≡ true → OperandOutside r
+  ranges-due : isStep r ≡ true → operandsOutside (rowOf (r .op)) (r .register) (r .number) ≡ true → OperandOutside all r
   unfolding operandsOutside
-  operand-due s e =
+  ranges-due s e =
       let x = known-row (r .op) s in
-      let t = ap (λ (o : Option Row). operandsOutside o (r .register) (r .number)) (sym (x .1)) ∙ e in (
+      let t = ap (λ (o : Option Row). operandsOutside o (r .register) (r .number)) (sym (x .1)) ∙ e in
+      inl (
         x .0,
         x .1,
         ⊎-elim (λ h. inl (ltb-true _ _ h))
@@ -230,13 +276,21 @@ module _ (q : Record) (qs behind : List Record) (r : Record) where
             (or-cases (ltb (x .0 .registers) (r .register)) (outside (x .0 .least) (x .0 .most) (r .number)) t),
       )
 
-  operand-right : wrongOperand r ≡ false → OperandOutside r → ⊥
-  operand-right e h =
-      let t = operands-inside r (h .0) (h .1) e in
-      let register = t .0 in
-      let least = t .1 in
-      let most = t .2 in
-      ⊎-elim (λ l. omega arith) (⊎-elim (λ l. omega arith) (λ l. omega arith)) (h .2)
+  operand-due : isStep r ≡ true → wrongOperand (workersIn taken) r ≡ true → OperandOutside all r
+  operand-due s e =
+      ⊎-elim (ranges-due s) (λ h. inr (eqb-true (r .op) opStart (and-left (eqb (r .op) opStart) _ h), leb-true _ _ (and-right (eqb (r .op) opStart) _ h)))
+      (or-cases (operandsOutside (rowOf (r .op)) (r .register) (r .number)) (startsNobody (workersIn taken) r) e)
+
+  operand-right : isStep r ≡ true → wrongOperand (workersIn taken) r ≡ false → OperandOutside all r → ⊥
+  operand-right s e =
+      ⊎-elim
+      (λ h.
+      let t = operands-inside (workersIn taken) r (h .0) (h .1) e in
+      let register = t .register in
+      let least = t .least in
+      let most = t .most in
+      ⊎-elim (λ l. omega arith) (⊎-elim (λ l. omega arith) (λ l. omega arith)) (h .2))
+      (λ h. let x = known-row (r .op) s in let l = operands-inside (workersIn taken) r (x .0) (x .1) e .target (h .0) in let m = h .1 in omega arith)
 
   abbrev NamesIt : Record → Type 0
   NamesIt p = (isBarrier p ≡ true) × (p .register ≡ r .number)
@@ -253,10 +307,10 @@ module _ (q : Record) (qs behind : List Record) (r : Record) where
       (found (names (r .number)) NamesIt (λ p n. (and-left (isBarrier p) _ n, eqb-true _ _ (and-right (isBarrier p) _ n)))
       (not-false _ (sym (ap (λ (b : Bool). b && not (anyOf (names (r .number)) taken)) (eq-eqb _ _ (h .0))) ∙ e)))
 
-  steps-cover : isBarrier r ≡ false → eqb (r .op) 0 ≡ false → Covers (stepTests all index r) (stepRule taken r) index
+  steps-cover : isBarrier r ≡ false → isSleep r ≡ false → eqb (r .op) 0 ≡ false → Covers (stepTests all index r) (stepRule taken r) index
   unfolding stepRule
-  steps-cover b z =
-      covers (not (known (r .op))) badOp _ (λ e. (eqb-false (r .op) 0 z, b, not-true _ e)) (λ e d. absurd (false≢true (sym (d .2) ∙ not-false _ e)))
+  steps-cover b d z =
+      covers (not (known (r .op))) badOp _ (λ e. (eqb-false (r .op) 0 z, b, d, not-true _ e)) (λ e u. absurd (false≢true (sym (u .3) ∙ not-false _ e)))
       (λ e.
       let s : isStep r ≡ true = not-false _ e in
       covers (wrongWorker taken r) badWorker _ (worker-due s) worker-right
@@ -265,28 +319,38 @@ module _ (q : Record) (qs behind : List Record) (r : Record) where
       (λ l. (s, omega (arith, leb-true stepsLimit (length (stepsIn taken (r .worker))) l, counted)))
       (λ l d. omega (arith, leb-false stepsLimit (length (stepsIn taken (r .worker))) l, counted, d .1))
       (λ l.
-      covers (wrongOperand r) badOperand _ (operand-due s) operand-right
+      covers (wrongOperand (workersIn taken) r) badOperand _ (operand-due s) (operand-right s)
       (λ o.
       covers (lacksSize taken r) noSize holds size-due size-right
       (λ m. covers-none index)))))
 
   later-covers : Covers (testsOf all index r) (recordRule taken r) index
-  unfolding recordRule laterRule barrierRecordRule known rowIn
+  unfolding recordRule laterRule barrierRecordRule sleepRecordRule
   later-covers =
       covers (not (eqb (r .mark) planMark)) badMark (laterRule taken r) (mark-due r) (mark-right r)
       (λ m.
       covers (eqb (r .op) 0) badPlan _
       (λ e. inr (omega arith, eqb-true (r .op) 0 e))
       (λ e. ⊎-elim (λ d. let h = d .0 in omega arith) (λ d. eqb-false (r .op) 0 e (d .1)))
-      (λ z. go (isBarrier r) refl z))
+      (λ z. go (isBarrier r) refl (isSleep r) refl z))
     where
-      go : (b : Bool) → isBarrier r ≡ b → eqb (r .op) 0 ≡ false
-          → Covers (test badBarrier index (BarrierAmiss all index r) ∷ stepTests all index r) (cond b (barrierRecordRule taken r) (stepRule taken r)) index
-      go true b z =
+      go : (b : Bool) → isBarrier r ≡ b → (d : Bool) → isSleep r ≡ d → eqb (r .op) 0 ≡ false
+          → Covers (test badBarrier index (BarrierAmiss all index r) ∷ test badSleep index (SleepAmiss all index r) ∷ stepTests all index r)
+          (cond b (barrierRecordRule taken r) (cond d (sleepRecordRule taken r) (stepRule taken r))) index
+      go true b d s z =
+          let one = eqb-true (r .op) 1 b in
           covers barrierTest badBarrier holds (barrier-due b) (barrier-right b)
-          (λ e. no-step all index r (barrier-no-step r b) (λ d. absurd (false≢true (sym (d .1) ∙ b))) (λ o. let one = eqb-true (r .op) 1 b in omega arith))
-      go false b z =
-          passes-by (λ (d : BarrierAmiss all index r). false≢true (sym b ∙ d .0)) (steps-cover b z)
+          (λ e.
+          passes-by (λ (h : SleepAmiss all index r). let two = eqb-true (r .op) 2 (h .0) in omega arith)
+          (no-step all index r (barrier-no-step r b) (λ u. absurd (false≢true (sym (u .1) ∙ b))) (λ o. omega arith)))
+      go false b true s z =
+          let two = eqb-true (r .op) 2 s in
+          passes-by (λ (h : BarrierAmiss all index r). false≢true (sym b ∙ h .0))
+          (covers sleepTest badSleep holds (sleep-due s) (sleep-right s)
+          (λ e. no-step all index r (sleep-no-step r s) (λ u. absurd (false≢true (sym (u .2) ∙ s))) (λ o. omega arith)))
+      go false b false s z =
+          passes-by (λ (h : BarrierAmiss all index r). false≢true (sym b ∙ h .0))
+          (passes-by (λ (h : SleepAmiss all index r). false≢true (sym s ∙ h .0)) (steps-cover b s z))
 
 -- any record
 pub record-covers : (before behind : List Record) (r : Record)

@@ -10,12 +10,12 @@ use lib.ListN.{length, take, length-take}
 use lib.Seq.{getD-take}
 use borrow.Author.Tests.{ltb-false, leb-false, le-ltb, eqb-true, not-false, eq-eqb}
 use Rattle.protocol.specs.Ops.{opBarrier}
-use Rattle.protocol.specs.Format.{Record, planMark, isBarrier, isStep, isSkip, workersIn}
+use Rattle.protocol.specs.Format.{Record, planMark, isBarrier, isSleep, isStep, isSkip, workersIn}
 use Rattle.protocol.specs.Refusals.{badMark, accepted, holds, anyOf, planRule, laterRule, recordRule, skipTooFar, skipRule, checkRecords, wrongPlan, badPlan}
-use Rattle.protocol.specs.WellFormed.{blank, recordAt, PlanRecord, BarrierRecord, StepRecord, stepsBehind, FormedRecords}
+use Rattle.protocol.specs.WellFormed.{blank, recordAt, PlanRecord, BarrierRecord, SleepRecord, StepRecord, stepsBehind, FormedRecords}
 use Rattle.protocol.proofs.Bools.{and-left, and-right}
-use Rattle.protocol.proofs.Records.{one, any-reaches, picks, openedIn, names}
-use Rattle.protocol.proofs.Taken.{rule-parts, plan-record, BarrierTaken, StepTaken, later-taken}
+use Rattle.protocol.proofs.Records.{one, topIn, any-reaches, picks, openedIn, names}
+use Rattle.protocol.proofs.Taken.{rule-parts, plan-record, BarrierTaken, SleepTaken, StepTaken, Taken, later-taken}
 use Rattle.protocol.proofs.Accepted.{accepts, accepted-records}
 use Rattle.protocol.proofs.Covered.{any-there, any-none, known-row, operands-inside}
 
@@ -39,8 +39,16 @@ rule-mark (q ∷ qs) r e = eqb-true (r .mark) planMark (not-false _ (rule-parts 
 step-record : (before : List Record) (r : Record) → StepTaken before r → StepRecord (workersIn before) r
 step-record before r t =
     let x = known-row (r .op) (t .step) in
-    let inside = operands-inside r (x .0) (x .1) (t .inside) in
-    record { row = x .0; ofTable = x .1; worker = t .below; register = inside .0; least = inside .1; most = inside .2 }
+    let inside = operands-inside (workersIn before) r (x .0) (x .1) (t .inside) in
+    record {
+      row = x .0;
+      ofTable = x .1;
+      worker = t .below;
+      register = inside .register;
+      least = inside .least;
+      most = inside .most;
+      target = inside .target;
+    }
 
 module _ (q : Record) (qs : List Record) (ok : checkRecords [] (q ∷ qs) ≡ accepted) where
   abbrev rs : List Record
@@ -50,7 +58,7 @@ module _ (q : Record) (qs : List Record) (ok : checkRecords [] (q ∷ qs) ≡ ac
   unfolding recordRule
   first-rule = rule-parts (not (eqb (q .mark) planMark)) badMark (planRule q) (rules-hold [] rs ok 0 (omega arith)) .1
 
-  taken : (i : ℕ) → 1 ≤ i → i < length rs → BarrierTaken (take i rs) (recordAt rs i) ⊎ StepTaken (take i rs) (recordAt rs i)
+  taken : (i : ℕ) → 1 ≤ i → i < length rs → Taken (take i rs) (recordAt rs i)
   unfolding recordRule
   taken zero l h = absurd (omega arith)
   taken (suc i) l h =
@@ -58,10 +66,18 @@ module _ (q : Record) (qs : List Record) (ok : checkRecords [] (q ∷ qs) ≡ ac
       (rule-parts (not (eqb (recordAt qs i .mark) planMark)) badMark (laterRule (q ∷ take i qs) (recordAt qs i)) (rules-hold [] rs ok (suc i) h) .1)
 
   taken-barrier : (i : ℕ) → 1 ≤ i → i < length rs → isBarrier (recordAt rs i) ≡ true → BarrierTaken (take i rs) (recordAt rs i)
-  taken-barrier i l h b = ⊎-elim (λ t. t) (λ t. absurd (false≢true (sym (t .noBarrier) ∙ b))) (taken i l h)
+  taken-barrier i l h b =
+      ⊎-elim (λ t. t) (⊎-elim (λ t. absurd (false≢true (sym (t .noBarrier) ∙ b))) (λ t. absurd (false≢true (sym (t .noBarrier) ∙ b)))) (taken i l h)
+
+  taken-sleep : (i : ℕ) → 1 ≤ i → i < length rs → isSleep (recordAt rs i) ≡ true → SleepTaken (take i rs) (recordAt rs i)
+  taken-sleep i l h s =
+      ⊎-elim (λ t. absurd (let one = eqb-true (recordAt rs i .op) 1 (t .barrier) in let two = eqb-true (recordAt rs i .op) 2 s in omega arith))
+      (⊎-elim (λ t. t) (λ t. absurd (false≢true (sym (t .noSleep) ∙ s))))
+      (taken i l h)
 
   taken-step : (i : ℕ) → 1 ≤ i → i < length rs → isStep (recordAt rs i) ≡ true → StepTaken (take i rs) (recordAt rs i)
-  taken-step i l h s = ⊎-elim (λ t. absurd (false≢true (sym (t .noStep) ∙ s))) (λ t. t) (taken i l h)
+  taken-step i l h s =
+      ⊎-elim (λ t. absurd (false≢true (sym (t .noStep) ∙ s))) (⊎-elim (λ t. absurd (false≢true (sym (t .noStep) ∙ s))) (λ t. t)) (taken i l h)
 
   within : (i j : ℕ) → i < j → j < length rs → i < length (take j rs)
   within i j l h = let e = length-take j rs in omega arith
@@ -74,46 +90,59 @@ module _ (q : Record) (qs : List Record) (ok : checkRecords [] (q ∷ qs) ≡ ac
   not-both : (a b : Bool) → a && b ≡ false → a ≡ true → b ≡ false
   not-both a b e h = sym (ap (λ (t : Bool). t && b) h) ∙ e
 
+  -- of one kind, records ascend by a number
+  higher-later : (kind : Record → Bool) (number : Record → ℕ) (k i j : ℕ) → i < j → j < length rs → topIn kind number (take j rs) ≤ k
+      → kind (recordAt rs i) ≡ true → number (recordAt rs i) < k
+  higher-later kind number k i j l h top b =
+      leb-false _ _
+      (not-both (kind (recordAt rs i)) _ (none-before (λ p. kind p && leb k (number p)) i j l h (any-reaches kind number k (take j rs) ∙ le-ltb _ _ top)) b)
+
   ascending : (i j : ℕ) → i < j → j < length rs → isBarrier (recordAt rs i) ≡ true → isBarrier (recordAt rs j) ≡ true
       → recordAt rs i .register < recordAt rs j .register
-  ascending i j l h b c =
-      let t = taken-barrier j (omega arith) h c in
-      leb-false _ _
-      (not-both (isBarrier (recordAt rs i)) _
-      (none-before (λ p. isBarrier p && leb (recordAt rs j .register) (p .register)) i j l h
-      (any-reaches isBarrier (λ p. p .register) (recordAt rs j .register) (take j rs) ∙ le-ltb _ _ (t .ascends)))
-      b)
+  ascending i j l h b c = higher-later isBarrier (λ p. p .register) (recordAt rs j .register) i j l h (taken-barrier j (omega arith) h c .ascends) b
 
-  steps-last : (i j : ℕ) → i < j → j < length rs → isStep (recordAt rs i) ≡ true → isBarrier (recordAt rs j) ≡ true → ⊥
-  steps-last i j l h s c =
-      let t = taken-barrier j (omega arith) h c in
-      false≢true
-      (sym (none-before isStep i j l h (picks isStep (λ p. p .worker) (take j rs) ∙ le-ltb 0 (openedIn (take j rs)) (let u = t .unopened in omega arith))) ∙ s)
+  sleepers-ascend : (i j : ℕ) → i < j → j < length rs → isSleep (recordAt rs i) ≡ true → isSleep (recordAt rs j) ≡ true
+      → recordAt rs i .worker < recordAt rs j .worker
+  sleepers-ascend i j l h b c = higher-later isSleep (λ p. p .worker) (recordAt rs j .worker) i j l h (taken-sleep j (omega arith) h c .ascends) b
+
+  barriers-first : (i j : ℕ) → i < j → j < length rs → isSleep (recordAt rs i) ≡ true → isBarrier (recordAt rs j) ≡ true → ⊥
+  barriers-first i j l h s c = false≢true (sym (none-before isSleep i j l h (taken-barrier j (omega arith) h c .noSleeper)) ∙ s)
+
+  -- while no worker has a step, no step stands before record j
+  no-step-before : (i j : ℕ) → i < j → j < length rs → openedIn (take j rs) ≡ 0 → isStep (recordAt rs i) ≡ true → ⊥
+  no-step-before i j l h unopened s =
+      false≢true (sym (none-before isStep i j l h (picks isStep (λ p. p .worker) (take j rs) ∙ le-ltb 0 (openedIn (take j rs)) (omega arith))) ∙ s)
+
+  steps-last : (i j : ℕ) → i < j → j < length rs → isStep (recordAt rs i) ≡ true
+      → (isBarrier (recordAt rs j) ≡ true) ⊎ (isSleep (recordAt rs j) ≡ true) → ⊥
+  steps-last i j l h s =
+      ⊎-elim (λ c. no-step-before i j l h (taken-barrier j (omega arith) h c .unopened) s)
+      (λ c. no-step-before i j l h (taken-sleep j (omega arith) h c .unopened) s)
 
   rising : (i j : ℕ) → i < j → j < length rs → isStep (recordAt rs i) ≡ true → isStep (recordAt rs j) ≡ true
       → recordAt rs i .worker ≤ recordAt rs j .worker
   rising i j l h s c =
       let t = taken-step j (omega arith) h c in
-      let lower = leb-false (suc (recordAt rs j .worker)) (recordAt rs i .worker)
-      (not-both (isStep (recordAt rs i)) _
-      (none-before (λ p. isStep p && leb (suc (recordAt rs j .worker)) (p .worker)) i j l h
-      (any-reaches isStep (λ p. p .worker) (suc (recordAt rs j .worker)) (take j rs) ∙ le-ltb _ _ (t .level)))
-      s) in
+      let lower = higher-later isStep (λ p. p .worker) (suc (recordAt rs j .worker)) i j l h (t .level) s in
       omega arith
 
   first-is : PlanRecord q
   unfolding planRule
   first-is = plan-record q (rule-parts (wrongPlan q) badPlan holds first-rule .0)
 
-  later : (i : ℕ) → 1 ≤ i → i < length rs → BarrierRecord (recordAt rs i) ⊎ StepRecord (workersIn rs) (recordAt rs i)
+  later : (i : ℕ) → 1 ≤ i → i < length rs
+      → BarrierRecord (recordAt rs i) ⊎ (SleepRecord (workersIn rs) (recordAt rs i) ⊎ StepRecord (workersIn rs) (recordAt rs i))
   later zero l h = absurd (omega arith)
   later (suc i) l h =
-      ⊎-elim (λ t. inl (t .formed)) (λ t. inr (step-record (take (suc i) rs) _ t)) (taken (suc i) l h)
+      ⊎-elim (λ t. inl (t .formed)) (⊎-elim (λ t. inr (inl (t .formed))) (λ t. inr (inr (step-record (take (suc i) rs) _ t)))) (taken (suc i) l h)
 
   sized : (j : ℕ) → j < length rs → recordAt rs j .op ≡ opBarrier
       → (i : ℕ) × (i < length rs) × (isBarrier (recordAt rs i) ≡ true) × (recordAt rs i .register ≡ recordAt rs j .number)
   sized zero h o = absurd (let z = first-is .op in omega arith)
-  sized (suc j) h o = ⊎-elim (λ t. absurd (let z = eqb-true (recordAt rs (suc j) .op) 1 (t .barrier) in omega arith)) named (taken (suc j) (omega arith) h)
+  sized (suc j) h o =
+      ⊎-elim (λ t. absurd (let z = eqb-true (recordAt rs (suc j) .op) 1 (t .barrier) in omega arith))
+      (⊎-elim (λ t. absurd (let z = eqb-true (recordAt rs (suc j) .op) 2 (t .sleep) in omega arith)) named)
+      (taken (suc j) (omega arith) h)
     where
       named : StepTaken (take (suc j) rs) (recordAt rs (suc j))
           → (i : ℕ) × (i < length rs) × (isBarrier (recordAt rs i) ≡ true) × (recordAt rs i .register ≡ recordAt rs (suc j) .number)
@@ -135,6 +164,8 @@ module _ (q : Record) (qs : List Record) (ok : checkRecords [] (q ∷ qs) ≡ ac
         first = first-is;
         later = later;
         ascending = ascending;
+        sleepersAscend = sleepers-ascend;
+        barriersFirst = barriers-first;
         stepsLast = steps-last;
         rising = λ i j l h s c. omega (arith, rising i j l h s c);
         few = a .read .few;

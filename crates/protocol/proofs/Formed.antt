@@ -2,7 +2,7 @@
 use Prim.Native.Nat.{ℕ, zero, suc, _+_, _<_, _≤_}
 use mathlib.Core.Bool.{Bool, true, false, cond, _&&_, false≢true}
 use mathlib.Core.Path.{_≡_, refl, sym, ap, _∙_, subst, subst⁻¹}
-use mathlib.Core.Logic.{⊎-elim, _↔_}
+use mathlib.Core.Logic.{inl, inr, ⊎-elim, _↔_}
 use mathlib.Core.List.{List, [], _∷_, _++_}
 use mathlib.Core.Option.{some}
 use native.Mathlib.Omega.{arith}
@@ -11,17 +11,17 @@ use lib.Dec.{eqb}
 use lib.ListN.{length, getD, take, drop, length-append, take-append-drop}
 use lib.Seq.{drop-cons}
 use borrow.Author.Tests.{eqb-true, eq-eqb}
-use Rattle.protocol.specs.Format.{Record, Row, recordCount, records, planOf, rowIn, known, isBarrier, isStep, workersIn, stepsIn, stepOf}
+use Rattle.protocol.specs.Format.{Record, Row, recordCount, records, planOf, rowIn, known, isBarrier, isSleep, isStep, workersIn, stepsIn, stepOf}
 use Rattle.protocol.specs.Refusals.{Verdict, accepted, lengthRule, checkRecords, check}
 use Rattle.protocol.specs.Turns.{workersOf}
 use Rattle.protocol.specs.Calls.{Buffers, misfit, turnsLimit, runVerdict}
-use Rattle.protocol.specs.WellFormed.{blank, recordAt, PlanRecord, BarrierRecord, StepRecord, FormedRecords, WellFormed, Runnable}
-use Rattle.protocol.specs.Conditions.{LengthAmiss, NoPlan, BarrierAmiss, UnknownOp, WorkerAmiss, StepBeyond, OperandOutside, SizeMissing, SkipBeyond, Test, recordTests, skipTests}
+use Rattle.protocol.specs.WellFormed.{blank, recordAt, PlanRecord, BarrierRecord, SleepRecord, StepRecord, FormedRecords, WellFormed, Runnable}
+use Rattle.protocol.specs.Conditions.{LengthAmiss, NoPlan, BarrierAmiss, SleepAmiss, UnknownOp, WorkerAmiss, StepBeyond, OperandOutside, SizeMissing, SkipBeyond, Test, recordTests, skipTests}
 use Rattle.protocol.specs.Conditions.{over, fileTests, runTests, FirstDue}
 use Rattle.protocol.proofs.Bools.{split}
 use Rattle.protocol.proofs.Records.{one, stepsIn-append}
 use Rattle.protocol.proofs.Accepted.{accepts, length-ruled, length-records}
-use Rattle.protocol.proofs.Covered.{row-known}
+use Rattle.protocol.proofs.Covered.{row-known, start-known}
 use Rattle.protocol.proofs.FirstDue.{check-first, run-first, fitting, misfitting}
 use Rattle.protocol.proofs.Described.{formed}
 
@@ -77,32 +77,52 @@ module _ (rs : List Record) (f : FormedRecords rs) (i : ℕ) (h : i < length rs)
   pub is-step : isStep r ≡ true → StepRecord (workersIn rs) r
   unfolding known rowIn
   is-step s =
-      ⊎-elim (λ b. absurd (not-known 1 refl (b .op) s)) (λ t. t) (f .later i (is-later (λ z. not-known 0 refl z s)) h)
+      ⊎-elim (λ b. absurd (not-known 1 refl (b .op) s)) (⊎-elim (λ d. absurd (not-known 2 refl (d .op) s)) (λ t. t))
+      (f .later i (is-later (λ z. not-known 0 refl z s)) h)
+
+  of-row : StepRecord (workersIn rs) r → isStep r ≡ true
+  of-row t = row-known (r .op) (t .row) (t .ofTable)
 
   is-barrier : isBarrier r ≡ true → BarrierRecord r
   unfolding known rowIn
   is-barrier b =
       let one = eqb-true (r .op) 1 b in
-      ⊎-elim (λ t. t) (λ t. absurd (not-known 1 refl one (row-known (r .op) (t .row) (t .ofTable)))) (f .later i (is-later (λ z. omega arith)) h)
+      ⊎-elim (λ t. t) (⊎-elim (λ d. absurd (let two = d .op in omega arith)) (λ t. absurd (not-known 1 refl one (of-row t))))
+      (f .later i (is-later (λ z. omega arith)) h)
+
+  is-sleep : isSleep r ≡ true → SleepRecord (workersIn rs) r
+  unfolding known rowIn
+  is-sleep b =
+      let two = eqb-true (r .op) 2 b in
+      ⊎-elim (λ t. absurd (let one = t .op in omega arith)) (⊎-elim (λ d. d) (λ t. absurd (not-known 2 refl two (of-row t))))
+      (f .later i (is-later (λ z. omega arith)) h)
 
   no-plan : NoPlan i r → ⊥
   unfolding known rowIn
   no-plan =
       ⊎-elim (λ d. d .1 (subst⁻¹ (λ (k : ℕ). PlanRecord (recordAt rs k)) (d .0) (f .first)))
       (λ d.
-      ⊎-elim (λ b. let one = b .op in let z = d .1 in omega arith) (λ s. not-known 0 refl (d .1) (row-known (r .op) (s .row) (s .ofTable)))
+      ⊎-elim (λ b. let one = b .op in let z = d .1 in omega arith)
+      (⊎-elim (λ b. let two = b .op in let z = d .1 in omega arith) (λ s. not-known 0 refl (d .1) (of-row s)))
       (f .later i (d .0) h))
 
   no-barrier : BarrierAmiss rs i r → ⊥
   no-barrier d =
       ⊎-elim (λ k. let l = f .ascending (k .0) i (k .1) h (k .2 .0) (d .0) in let m = k .2 .1 in omega arith)
-      (⊎-elim (λ k. f .stepsLast (k .0) i (k .1) h (k .2) (d .0)) (λ amiss. amiss (is-barrier (d .0))))
+      (⊎-elim (λ k. ⊎-elim (λ s. f .barriersFirst (k .0) i (k .1) h s (d .0)) (λ s. f .stepsLast (k .0) i (k .1) h s (inl (d .0))) (k .2))
+      (λ amiss. amiss (is-barrier (d .0))))
+      (d .1)
+
+  no-sleep : SleepAmiss rs i r → ⊥
+  no-sleep d =
+      ⊎-elim (λ k. let l = f .sleepersAscend (k .0) i (k .1) h (k .2 .0) (d .0) in let m = k .2 .1 in omega arith)
+      (⊎-elim (λ k. f .stepsLast (k .0) i (k .1) h (k .2) (inr (d .0))) (λ amiss. amiss (is-sleep (d .0))))
       (d .1)
 
   no-unknown : UnknownOp r → ⊥
   no-unknown d =
       ⊎-elim (λ b. false≢true (sym (d .1) ∙ eq-eqb (r .op) 1 (b .op)))
-      (λ s. false≢true (sym (d .2) ∙ row-known (r .op) (s .row) (s .ofTable)))
+      (⊎-elim (λ b. false≢true (sym (d .2) ∙ eq-eqb (r .op) 2 (b .op))) (λ s. false≢true (sym (d .3) ∙ of-row s)))
       (f .later i (is-later (d .0)) h)
 
   no-worker : WorkerAmiss rs i r → ⊥
@@ -121,14 +141,17 @@ module _ (rs : List Record) (f : FormedRecords rs) (i : ℕ) (h : i < length rs)
       ∙ ap (λ (b : Bool). length (cond b (stepOf r ∷ stepsIn (drop (suc i) rs) w) (stepsIn (drop (suc i) rs) w))) (eq-eqb w w refl) in
       omega (arith, f .few w, parts, sum, here, d .1)
 
-  no-operand : OperandOutside r → ⊥
-  no-operand d =
+  no-operand : OperandOutside rs r → ⊥
+  no-operand =
+      ⊎-elim
+      (λ d.
       let s = is-step (row-known (r .op) (d .0) (d .1)) in
       let same : d .0 ≡ s .row = cc (d .1, s .ofTable) in
       let register = subst⁻¹ (λ (x : Row). r .register ≤ x .registers) same (s .register) in
       let least = subst⁻¹ (λ (x : Row). x .least ≤ r .number) same (s .least) in
       let most = subst⁻¹ (λ (x : Row). r .number ≤ x .most) same (s .most) in
-      ⊎-elim (λ l. omega arith) (⊎-elim (λ l. omega arith) (λ l. omega arith)) (d .2)
+      ⊎-elim (λ l. omega arith) (⊎-elim (λ l. omega arith) (λ l. omega arith)) (d .2))
+      (λ d. let l = is-step (start-known r (d .0)) .target (d .0) in let m = d .1 in omega arith)
 
   no-size : SizeMissing rs i r → ⊥
   unfolding known rowIn
@@ -142,14 +165,14 @@ module _ (rs : List Record) (f : FormedRecords rs) (i : ℕ) (h : i < length rs)
               let one = eqb-true (r .op) 1 (subst (λ (j : ℕ). isBarrier (recordAt rs j) ≡ true) e (k .2)) in
               let o = d .0 in
               omega arith
-          | no e ↦ f .stepsLast i (k .0) (omega arith) l (ap known (d .0)) (k .2)
+          | no e ↦ f .stepsLast i (k .0) (omega arith) l (ap known (d .0)) (inl (k .2))
         ]
       ]
 
   none-record : NoneDue (recordTests rs i)
   none-record = (
     λ d. d (f .marked i h),
-    (no-plan, (no-barrier, (no-unknown, (no-worker, (no-beyond, (no-operand, (no-size, tt))))))),
+    (no-plan, (no-barrier, (no-sleep, (no-unknown, (no-worker, (no-beyond, (no-operand, (no-size, tt)))))))),
   )
 
   none-skip : NoneDue (skipTests rs i)

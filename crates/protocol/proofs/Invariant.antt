@@ -5,7 +5,7 @@ use mathlib.Core.Path.{_≡_}
 use mathlib.Core.List.{List, [], _∷_}
 use lib.ListN.{length}
 use Rattle.protocol.specs.Format.{Plan}
-use Rattle.protocol.specs.Steps.{Fate, going, exited, failed, waiting, Worker, stepsOf}
+use Rattle.protocol.specs.Steps.{Fate, going, exited, failed, asleep, waiting, Worker, stepsOf}
 use Rattle.protocol.specs.Rounds.{State, workerAt, hasArrived}
 use Rattle.protocol.specs.Turns.{workersOf}
 use Rattle.protocol.specs.RoundRun.{moveLimit}
@@ -16,29 +16,33 @@ unfoldable pub sumOf : (ℕ → Worker → ℕ) → List Worker → ℕ
 sumOf f [] = 0
 sumOf f (v ∷ vs) = f 0 v + sumOf (λ w. f (suc w)) vs
 
--- one of three numbers: for a worker that runs, for one that waits, for one that has left
-abbrev byFate : ℕ → ℕ → ℕ → Fate → ℕ
-byFate run wait left going = run
-byFate run wait left exited = left
-byFate run wait left failed = left
-byFate run wait left (waiting q) = wait
+-- one of four numbers: for a worker that runs, for one that waits, for one that sleeps, for one that has left
+abbrev byFate : ℕ → ℕ → ℕ → ℕ → Fate → ℕ
+byFate run wait sleep left going = run
+byFate run wait sleep left exited = left
+byFate run wait sleep left failed = left
+byFate run wait sleep left asleep = sleep
+byFate run wait sleep left (waiting q) = wait
 
--- 1 for a worker that runs, for one that waits, for one that has left
+-- 1 for a worker that runs, for one that waits, for one that sleeps, for one that has left
 abbrev pub runs : Fate → ℕ
-runs = byFate 1 0 0
+runs = byFate 1 0 0 0
 
 abbrev pub waits : Fate → ℕ
-waits = byFate 0 1 0
+waits = byFate 0 1 0 0
+
+abbrev pub rests : Fate → ℕ
+rests = byFate 0 0 1 0
 
 abbrev pub gone : Fate → ℕ
-gone = byFate 0 0 1
+gone = byFate 0 0 0 1
 
 abbrev pub tick : Bool → ℕ
 tick true = 1
 tick false = 0
 
 abbrev pub lasting : Fate → ℕ → ℕ
-lasting f k = byFate k k 0 f
+lasting f k = byFate k k k 0 f
 
 -- the moves that a worker with so many steps has left at most: two for each step and for the end, less one if it has arrived
 abbrev pub weight : ℕ → Worker → ℕ

@@ -1,23 +1,24 @@
 -- The laws that this machine obeys, for any plan and state: what the theorem on machines asks.
-use Prim.Native.Nat.{ℕ, _+_, _*_, _<_}
+use Prim.Native.Nat.{ℕ, suc, _+_, _*_, _<_, _≤_}
+use native.Mathlib.Decide.{decLt}
 use native.Mathlib.Omega.{arith}
-use mathlib.Core.Bool.{Bool, true, false, _&&_, _||_}
+use mathlib.Core.Bool.{Bool, true, false, not, _&&_, _||_}
 use mathlib.Core.Path.{_≡_, refl, sym, ap, _∙_, subst⁻¹}
-use mathlib.Core.List.{List, [], _∷_, append-nil}
+use mathlib.Core.List.{List, [], _∷_, map, append-nil}
 use lib.Dec.{eqb}
-use lib.ListN.{length, getD, replicate, length-replicate}
+use lib.ListN.{length, getD, List·getD-eq-default}
 use borrow.Author.Tests.{eq-eqb}
-use Rattle.protocol.specs.Format.{Step, own, sync, Sync, Plan, upTo}
-use Rattle.protocol.specs.Steps.{Worker, newWorker, stepsOf, stepAt}
-use Rattle.protocol.specs.Rounds.{State, workerAt, workerMoved, queueOf, Ruling, ruleOf, apply, syncMove, newRound, member}
-use Rattle.protocol.specs.Turns.{workersOf, start, allArrived, can, behind, closing, closed, moveBy, move, ended, noneLeft}
+use Rattle.protocol.specs.Format.{Step, own, sync, Sync, Plan, countFrom, upTo}
+use Rattle.protocol.specs.Steps.{Worker, newWorker, fateAs, stepsOf, stepAt}
+use Rattle.protocol.specs.Rounds.{State, workerAt, workerMoved, queueOf, fateIn, keep, Ruling, ruleOf, apply, syncMove, newRound, member}
+use Rattle.protocol.specs.Turns.{workersOf, sleeps, firstFate, firstWorker, start, allArrived, can, behind, closing, closed, moveBy, move, ended, noneLeft}
 use Rattle.protocol.specs.RoundRun.{total, moveLimit}
 use Rattle.protocol.specs.Demands.{occurs, Prefix}
-use Rattle.protocol.proofs.Bools.{or-holds}
-use Rattle.protocol.proofs.Lists.{getD-copies}
+use Rattle.protocol.proofs.Bools.{split, or-holds}
+use Rattle.protocol.proofs.Lists.{length-counted, mapped}
 use Rattle.protocol.proofs.Sound.{Sound}
 use Rattle.protocol.proofs.Invariant.{sumOf, weight, measure, Sane, Stands, Core, Inv}
-use Rattle.protocol.proofs.Counting.{clash, occurs-empty, occurs-above, occurs-within, member-some}
+use Rattle.protocol.proofs.Counting.{clash, occurs-empty, occurs-kept, occurs-dropped, occurs-above, occurs-within, member-some}
 use Rattle.protocol.proofs.Fence.{Can, runsUp, holds, can-view, can-runUp, can-hold, both-fenced, in-list, fence-move, fenced-commute, fenced-stays, fencedAt}
 use Rattle.protocol.proofs.OwnMoves.{OneOn, Listed, listed, fenced-on, own-on, moved-falls, moved-core}
 use Rattle.protocol.proofs.Rulings.{Lawful, applied-falls, applied-core}
@@ -25,23 +26,42 @@ use Rattle.protocol.proofs.Rules.{rule-lawful}
 
 -- the start
 
-weights-at-start : (steps : List (List Step)) → sumOf (λ w v. weight (length (getD steps w [])) v) (replicate (length steps) newWorker) ≡ 2 * (total steps + length steps)
-unfolding sumOf total newWorker
-weights-at-start [] = refl
-weights-at-start (x ∷ xs) = omega (arith, weights-at-start xs)
+-- nobody has moved, and a sleeper may yet make all its moves
+first-weight : (steps : ℕ) (b : Bool) → weight steps (fateAs (firstFate b) newWorker) ≡ 2 * (steps + 1)
+unfolding newWorker
+first-weight steps true = omega arith
+first-weight steps false = omega arith
+
+weights-at-start : (t : ℕ → Bool) (steps : List (List Step)) (i : ℕ)
+    → sumOf (λ w v. weight (length (getD steps w [])) v) (map (λ w. fateAs (firstFate (t w)) newWorker) (countFrom (length steps) i)) ≡ 2 * (total steps + length steps)
+unfolding sumOf total countFrom
+weights-at-start t [] i = refl
+weights-at-start t (x ∷ xs) i = omega (arith, first-weight (length x) (t i), weights-at-start t xs (suc i))
+
+-- a worker at the start
+pub start-worker : (plan : Plan) (memory : List ℕ) (w : ℕ) (P : Worker → Type 0) → (w < workersOf plan → P (firstWorker plan w))
+    → (workersOf plan ≤ w → P newWorker) → P (workerAt (start plan memory) w)
+unfolding start
+start-worker plan memory w P inside outside = elim (decLt w (workersOf plan)) [
+  | yes l ↦ subst⁻¹ P (mapped (firstWorker plan) (workersOf plan) w newWorker l) (inside l)
+  | no l ↦
+      subst⁻¹ P
+      (List·getD-eq-default (map (firstWorker plan) (upTo (workersOf plan))) newWorker (omega (arith, length-counted (firstWorker plan) (workersOf plan) 0)))
+      (outside (omega arith))
+]
 
 pub start-measure : (plan : Plan) (memory : List ℕ) → measure plan (start plan memory) ≡ moveLimit plan
 unfolding measure start
-start-measure plan memory = omega (arith, weights-at-start (plan .steps))
+start-measure plan memory = omega (arith, weights-at-start (sleeps plan) (plan .steps) 0)
 
 pub start-inv : (plan : Plan) (memory : List ℕ) → Sound plan → Inv plan (start plan memory)
 unfolding start newWorker
 start-inv plan memory sound =
     record {
       core = record {
-        size = length-replicate (workersOf plan) newWorker;
-        sane = λ w. rw getD-copies (new-sane (length (stepsOf plan w)));
-        stands = λ w. rw getD-copies (new-stands (workersOf plan) w);
+        size = length-counted (firstWorker plan) (workersOf plan) 0;
+        sane = λ w. start-worker plan memory w (Sane (length (stepsOf plan w))) (λ l. new-sane (length (stepsOf plan w)) (sleeps plan w)) (λ l. new-sane (length (stepsOf plan w)) false);
+        stands = λ w. start-worker plan memory w (Stands (workersOf plan) w awake [] []) (λ l. new-stands w (sleeps plan w) refl) (λ l. none-stands w l);
         logged = omega arith;
         spent = omega (arith, start-measure plan memory);
         rounded = omega arith;
@@ -49,14 +69,39 @@ start-inv plan memory sound =
       shut = λ e. refl;
     }
   where
-    new-sane : (steps : ℕ) → Sane steps newWorker
-    new-sane steps = record { within = omega arith; heldPlace = omega arith; heldSteps = omega arith; still = λ z. absurd (omega arith) }
+    awake : List ℕ
+    awake = keep (λ w. not (sleeps plan w)) (upTo (workersOf plan))
 
-    new-stands : (n w : ℕ) → Stands n w (upTo n) [] [] newWorker
-    new-stands n w =
+    -- whoever does not exist is not in the list, asleep or not
+    none-stands : (w : ℕ) → workersOf plan ≤ w → Stands (workersOf plan) w awake [] [] newWorker
+    none-stands w l =
+        let none = split (sleeps plan w) (λ e. occurs-dropped (λ v. not (sleeps plan v)) w (upTo (workersOf plan)) (ap not e))
+        (λ e. occurs-kept (λ v. not (sleeps plan v)) w (upTo (workersOf plan)) (ap not e) ∙ occurs-above (workersOf plan) 0 w (omega arith)) in
         record {
-          inside = λ l. omega (arith, occurs-within n 0 w (omega arith) (omega arith), occurs-empty w);
-          outside = λ l. omega (arith, occurs-above n 0 w (omega arith), occurs-empty w);
+          inside = λ k. absurd (omega arith);
+          outside = λ k. omega (arith, none, occurs-empty w);
+          queued = occurs-empty w;
+          fresh = λ k. absurd (omega (arith, occurs-empty w));
+        }
+
+    new-sane : (steps : ℕ) (b : Bool) → Sane steps (fateAs (firstFate b) newWorker)
+    new-sane steps true = record { within = omega arith; heldPlace = omega arith; heldSteps = omega arith; still = λ z. refl }
+    new-sane steps false = record { within = omega arith; heldPlace = omega arith; heldSteps = omega arith; still = λ z. absurd (omega arith) }
+
+    new-stands : (w : ℕ) (b : Bool) → sleeps plan w ≡ b → Stands (workersOf plan) w awake [] [] (fateAs (firstFate b) newWorker)
+    new-stands w true e =
+        let none = occurs-dropped (λ v. not (sleeps plan v)) w (upTo (workersOf plan)) (ap not e) in
+        record {
+          inside = λ l. omega (arith, none, occurs-empty w);
+          outside = λ l. omega (arith, none, occurs-empty w);
+          queued = occurs-empty w;
+          fresh = λ l. absurd (omega (arith, occurs-empty w));
+        }
+    new-stands w false e =
+        let all = occurs-kept (λ v. not (sleeps plan v)) w (upTo (workersOf plan)) (ap not e) in
+        record {
+          inside = λ l. omega (arith, all, occurs-within (workersOf plan) 0 w (omega arith) (omega arith), occurs-empty w);
+          outside = λ l. omega (arith, all, occurs-above (workersOf plan) 0 w (omega arith), occurs-empty w);
           queued = occurs-empty w;
           fresh = λ l. absurd (omega (arith, occurs-empty w));
         }
@@ -122,7 +167,7 @@ module _ (plan : Plan) (sound : Sound plan) (s : State) (w : ℕ) (i : Inv plan 
   unfolding apply
   rule-progress y rest t e a =
       let c : Core plan s = i .core in
-      let r : Ruling = ruleOf plan (queueOf s) (workerAt s w .held) y in
+      let r : Ruling = ruleOf plan (queueOf s) (fateIn s) (workerAt s w .held) y in
       let law : Lawful plan s w r = rule-lawful plan s w y c (listed plan s w c here) t in
       let s′ : State = apply y r w rest s in
       record {

@@ -1,9 +1,9 @@
 -- A refusal's number is never 0, which stands for accepted, and fits its place in the code.
 use Prim.Native.Nat.{_≤_}
 use native.Mathlib.Omega.{arith}
-use Rattle.protocol.specs.Refusals.{Refusal, badLength, badMark, badPlan, badBarrier, badWorker, badOp, badOperand, tooManySteps, noSize, skipTooFar, badBuffer, tooManyTurns, badTurn, numberOf}
+use Rattle.protocol.specs.Refusals.{Refusal, badLength, badMark, badPlan, badBarrier, badWorker, badOp, badOperand, tooManySteps, noSize, skipTooFar, badBuffer, tooManyTurns, badTurn, badSleep, numberOf}
 
-pub numbered : (f : Refusal) → (1 ≤ numberOf f) × (numberOf f ≤ 13)
+pub numbered : (f : Refusal) → (1 ≤ numberOf f) × (numberOf f ≤ 14)
 numbered badLength = (omega arith, omega arith)
 numbered badMark = (omega arith, omega arith)
 numbered badPlan = (omega arith, omega arith)
@@ -17,3 +17,4 @@ numbered skipTooFar = (omega arith, omega arith)
 numbered badBuffer = (omega arith, omega arith)
 numbered tooManyTurns = (omega arith, omega arith)
 numbered badTurn = (omega arith, omega arith)
+numbered badSleep = (omega arith, omega arith)

@@ -9,39 +9,43 @@ use mathlib.Core.List.{List}
 use lib.Dec.{eqb}
 use lib.ListN.{length, set, length-set, List·getD-eq-default}
 use Rattle.protocol.specs.Format.{Own, assign, load, store, add, subtract, skipZero, skipNonzero, Step, own, sync, exit, Plan}
-use Rattle.protocol.specs.Steps.{Fate, going, exited, failed, waiting, Worker, newWorker, arrivedAs, registerOf, ownStep, stepsOf, stepAt}
+use Rattle.protocol.specs.Steps.{Fate, going, exited, failed, asleep, waiting, Worker, newWorker, arrivedAs, registerOf, ownStep, stepsOf, stepAt}
 use Rattle.protocol.specs.Rounds.{State, workerAt, workerMoved}
 use Rattle.protocol.specs.Turns.{workersOf}
 use Rattle.protocol.specs.Demands.{occurs}
 use Rattle.protocol.proofs.Sound.{Sound}
-use Rattle.protocol.proofs.Invariant.{runs, waits, gone, tick, lasting, weight, weightIn, placeOf, measure, Sane, Stands, Core}
+use Rattle.protocol.proofs.Invariant.{runs, waits, rests, gone, tick, lasting, weight, weightIn, placeOf, measure, Sane, Stands, Core}
 use Rattle.protocol.proofs.Counting.{sum-mono, each-set, sum-falls}
 use Rattle.protocol.proofs.Fence.{fenced}
 
 -- fates
 
-pub one-fate : (f : Fate) → runs f + waits f + gone f ≡ 1
+pub one-fate : (f : Fate) → runs f + waits f + rests f + gone f ≡ 1
 one-fate going = refl
 one-fate exited = refl
 one-fate failed = refl
+one-fate asleep = refl
 one-fate (waiting q) = refl
 
 pub going-runs : (f : Fate) → 0 < runs f → f ≡ going
 going-runs going h = refl
 going-runs exited h = absurd (omega arith)
 going-runs failed h = absurd (omega arith)
+going-runs asleep h = absurd (omega arith)
 going-runs (waiting q) h = absurd (omega arith)
 
 pub lasting-here : (f : Fate) (k : ℕ) → gone f ≡ 0 → lasting f k ≡ k
 lasting-here going k e = refl
 lasting-here exited k e = absurd (omega arith)
 lasting-here failed k e = absurd (omega arith)
+lasting-here asleep k e = refl
 lasting-here (waiting q) k e = refl
 
 pub lasting-gone : (f : Fate) (k : ℕ) → gone f ≡ 1 → lasting f k ≡ 0
 lasting-gone going k e = absurd (omega arith)
 lasting-gone exited k e = refl
 lasting-gone failed k e = refl
+lasting-gone asleep k e = absurd (omega arith)
 lasting-gone (waiting q) k e = absurd (omega arith)
 
 -- what the invariant says of a worker in this round's list
@@ -51,6 +55,7 @@ pub record Listed (plan : Plan) (s : State) (w : ℕ) : Type 0 where
   pub once : occurs w (s .list) ≡ 1
   pub notNext : occurs w (s .next) ≡ 0
   pub notWaiting : occurs w (s .waiting) ≡ 0
+  pub awake : rests (workerAt s w .fate) ≡ 0
   pub place : workerAt s w .place ≤ length (stepsOf plan w)
 
 pub listed : (plan : Plan) (s : State) (w : ℕ) → Core plan s → 0 < occurs w (s .list) → Listed plan s w
@@ -70,14 +75,15 @@ listed plan s w c h = go (decLt w (workersOf plan))
           once = omega (arith, on .inside l, one-fate (v .fate));
           notNext = omega (arith, on .inside l, one-fate (v .fate));
           notWaiting = omega (arith, on .inside l, one-fate (v .fate), on .queued);
+          awake = omega (arith, on .inside l, one-fate (v .fate));
           place = omega (arith, on .inside l, one-fate (v .fate), c .sane w .within);
         }
     go (no nl) = absurd (omega (arith, on .outside (omega arith)))
 
--- whoever does not exist waits on nothing
-pub waiter-exists : (plan : Plan) (s : State) (w : ℕ) → Core plan s → 0 < waits (workerAt s w .fate) → w < workersOf plan
+-- whoever does not exist neither waits nor sleeps
+pub idler-exists : (plan : Plan) (s : State) (w : ℕ) → Core plan s → 0 < waits (workerAt s w .fate) + rests (workerAt s w .fate) → w < workersOf plan
 unfolding newWorker
-waiter-exists plan s w c l = go (decLt w (workersOf plan))
+idler-exists plan s w c l = go (decLt w (workersOf plan))
   where
     go : Dec (w < workersOf plan) → w < workersOf plan
     go (yes k) = k

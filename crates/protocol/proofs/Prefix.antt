@@ -18,7 +18,7 @@ use Rattle.protocol.specs.WellFormed.{blank}
 use Rattle.protocol.proofs.Bools.{split, or-fails, and-right}
 use Rattle.protocol.proofs.Records.{one, one-step, topIn, anyOf-one, topIn-kept, topIn-raised, openedIn, names, names-new, sizeIn-other, sizeIn-new, stepsIn-one, first-unopened}
 use Rattle.protocol.proofs.Records.{first-inside, first-grows, first-one-opened, first-one-unopened}
-use Rattle.protocol.proofs.Taken.{StepTaken, BarrierTaken, later-taken}
+use Rattle.protocol.proofs.Taken.{StepTaken, BarrierTaken, SleepTaken, later-taken}
 
 abbrev pub Together : List Record → Type 0
 Together rs = (w : ℕ) → firstIn rs w + length (stepsIn rs w) ≡ firstIn rs (suc w)
@@ -32,14 +32,14 @@ pub record StepStands (rs : List Record) (w k : ℕ) : Type 0 where
 abbrev pub Placed : List Record → Type 0
 Placed rs = (w k : ℕ) → k < length (stepsIn rs w) → StepStands rs w k
 
--- a step, record i: its operands are in range, the barrier that it names has a size, and later workers' steps come later
-pub record StepFits (rs : List Record) (i : ℕ) (r : Record) : Type 0 where
-  pub inside : wrongOperand r ≡ false
+-- a step of a plan of n workers, record i: its operands are in range, the barrier that it names has a size, and later workers' steps come later
+pub record StepFits (n : ℕ) (rs : List Record) (i : ℕ) (r : Record) : Type 0 where
+  pub inside : wrongOperand n r ≡ false
   pub sized : lacksSize rs r ≡ false
   pub ends : i < firstIn rs (suc (r .worker))
 
-abbrev pub Fit : List Record → Type 0
-Fit rs = (i : ℕ) → i < length rs → isStep (getD rs i blank) ≡ true → StepFits rs i (getD rs i blank)
+abbrev pub Fit : ℕ → List Record → Type 0
+Fit n rs = (i : ℕ) → i < length rs → isStep (getD rs i blank) ≡ true → StepFits n rs i (getD rs i blank)
 
 -- a barrier that a record names has a size from 1 to 8, any other the size 0
 pub record BarrierSized (rs : List Record) (b : ℕ) : Type 0 where
@@ -53,7 +53,7 @@ pub record Read (rs : List Record) : Type 0 where
   pub placed : Placed rs
   pub few : (w : ℕ) → length (stepsIn rs w) ≤ stepsLimit
   pub sized : (b : ℕ) → BarrierSized rs b
-  pub fit : Fit rs
+  pub fit : Fit (workersIn rs) rs
 
 -- the parts of `Read` for one record more, by what the record is
 module _ (rs : List Record) (r : Record) where
@@ -179,12 +179,12 @@ module _ (rs : List Record) (r : Record) where
       go true true t e = refl
       go true false t e = absurd (true≢false e)
 
-  fit-more : (isStep r ≡ true → StepFits (rs ++ one r) (length rs) r) → Fit rs → Fit (rs ++ one r)
-  fit-more new old i h e = elim (decLt i (length rs)) [
+  fit-more : (n : ℕ) → (isStep r ≡ true → StepFits n (rs ++ one r) (length rs) r) → Fit n rs → Fit n (rs ++ one r)
+  fit-more n new old i h e = elim (decLt i (length rs)) [
     | yes l ↦
         let same = List·getD-append rs (one r) blank i l in
         let f = old i l (subst (λ (q : Record). isStep q ≡ true) same e) in
-        subst⁻¹ (λ (q : Record). StepFits (rs ++ one r) i q) same
+        subst⁻¹ (λ (q : Record). StepFits n (rs ++ one r) i q) same
         (record {
           inside = f .inside;
           sized = sized-more (getD rs i blank) (f .sized);
@@ -193,11 +193,11 @@ module _ (rs : List Record) (r : Record) where
     | no l ↦
         let at : length rs ≡ i = let n = length-one in omega arith in
         let same = getD-at rs r [] blank i at in
-        subst⁻¹ (λ (q : Record). StepFits (rs ++ one r) i q) same
-        (subst (λ (j : ℕ). StepFits (rs ++ one r) j r) at (new (subst (λ (q : Record). isStep q ≡ true) same e)))
+        subst⁻¹ (λ (q : Record). StepFits n (rs ++ one r) i q) same
+        (subst (λ (j : ℕ). StepFits n (rs ++ one r) j r) at (new (subst (λ (q : Record). isStep q ≡ true) same e)))
   ]
 
-  fits-new : StepTaken rs r → StepFits (rs ++ one r) (length rs) r
+  fits-new : StepTaken rs r → StepFits (workersIn rs) (rs ++ one r) (length rs) r
   fits-new t =
       record {
         inside = t .inside;
@@ -242,27 +242,35 @@ read-first r b s =
       placed = λ w k h. absurd (let z = no-steps [] r refl s together w in omega arith);
       few = λ w. let z = no-steps [] r refl s together w in omega arith;
       sized = λ n. sized-other [] r n (names-barrier [] r n b) (record { found = refl; most = omega arith });
-      fit = fit-more [] r (λ e. absurd (true≢false (sym e ∙ s))) (λ i h. absurd (omega arith));
+      fit = fit-more [] r (r .worker) (λ e. absurd (true≢false (sym e ∙ s))) (λ i h. absurd (omega arith));
     }
 
 -- a later record that its rule takes
 pub read-more : (q : Record) (qs : List Record) (r : Record) → Read (q ∷ qs) → laterRule (q ∷ qs) r ≡ holds → Read ((q ∷ qs) ++ one r)
-read-more q qs r old e = ⊎-elim barrier step (later-taken rs r e)
+read-more q qs r old e = ⊎-elim barrier (⊎-elim sleep step) (later-taken rs r e)
   where
     rs : List Record
     rs = q ∷ qs
 
-    barrier : BarrierTaken rs r → Read (rs ++ one r)
-    barrier t =
-        let none = no-steps rs r (t .unopened) (t .noStep) (old .together) in
+    -- before the steps
+    head : openedIn rs ≡ 0 → isStep r ≡ false → ((b : ℕ) → BarrierSized (rs ++ one r) b) → Read (rs ++ one r)
+    head unopened noStep sized =
+        let none = no-steps rs r unopened noStep (old .together) in
         record {
-          opened = let same = topIn-kept isStep (λ r. r .worker) rs r (t .noStep) in let h = old .opened in omega arith;
-          together = together-no-step rs r (t .unopened) (t .noStep) (old .together);
+          opened = let same = topIn-kept isStep (λ r. r .worker) rs r noStep in let h = old .opened in omega arith;
+          together = together-no-step rs r unopened noStep (old .together);
           placed = λ w k h. absurd (let z = none w in omega arith);
           few = λ w. let z = none w in omega arith;
-          sized = λ b. split (names b r) (λ n. sized-new rs r b t n) (λ n. sized-other rs r b n (old .sized b));
-          fit = fit-more rs r (λ s. absurd (true≢false (sym s ∙ t .noStep))) (old .fit);
+          sized = sized;
+          fit = fit-more rs r (workersIn rs) (λ s. absurd (true≢false (sym s ∙ noStep))) (old .fit);
         }
+
+    barrier : BarrierTaken rs r → Read (rs ++ one r)
+    barrier t =
+        head (t .unopened) (t .noStep) (λ b. split (names b r) (λ n. sized-new rs r b t n) (λ n. sized-other rs r b n (old .sized b)))
+
+    sleep : SleepTaken rs r → Read (rs ++ one r)
+    sleep t = head (t .unopened) (t .noStep) (λ b. sized-other rs r b (names-barrier rs r b (t .noBarrier)) (old .sized b))
 
     step : StepTaken rs r → Read (rs ++ one r)
     step t =
@@ -272,5 +280,5 @@ read-more q qs r old e = ⊎-elim barrier step (later-taken rs r e)
           placed = placed-step rs r t (old .together) (old .placed);
           few = few-step rs r t (old .few);
           sized = λ b. sized-other rs r b (names-barrier rs r b (t .noBarrier)) (old .sized b);
-          fit = fit-more rs r (λ s. fits-new rs r t) (old .fit);
+          fit = fit-more rs r (workersIn rs) (λ s. fits-new rs r t) (old .fit);
         }

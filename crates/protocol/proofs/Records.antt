@@ -8,7 +8,7 @@ use native.Mathlib.Decide.{decLt}
 use lib.Dec.{leb, ltb, eqb}
 use lib.ListN.{length, getD}
 use borrow.Author.Tests.{lt-ltb, le-ltb, le-leb, ltb-true, ltb-false, leb-true, leb-false, eqb-true}
-use Rattle.protocol.specs.Format.{Record, Step, isBarrier, isStep, isStepOf, sizeIn, stepsIn, stepOf, firstIn}
+use Rattle.protocol.specs.Format.{Record, Step, isBarrier, isSleep, isStep, isStepOf, sizeIn, sleepersIn, stepsIn, stepOf, firstIn}
 use Rattle.protocol.specs.Refusals.{anyOf}
 use Rattle.protocol.proofs.Bools.{or-assoc, or-false, and-left, or-left, or-right, split, and-right}
 
@@ -23,14 +23,35 @@ unfolding anyOf
 anyOf-one t [] r = or-false (t r)
 anyOf-one t (q ∷ rs) r = ap (λ (b : Bool). t q || b) (anyOf-one t rs r) ∙ or-assoc (t q) (anyOf t rs) (t r)
 
+-- neither of two tests holds of any
+pub any-either : (t u : Record → Bool) (rs : List Record) → anyOf (λ q. t q || u q) rs ≡ false → (anyOf t rs ≡ false) × (anyOf u rs ≡ false)
+unfolding anyOf
+any-either t u [] e = (refl, refl)
+any-either t u (q ∷ rs) e =
+    let here = or-left (t q || u q) _ e in
+    let there = any-either t u rs (or-right (t q || u q) e) in
+    (ap (λ (b : Bool). b || anyOf t rs) (or-left (t q) (u q) here) ∙ there .0, ap (λ (b : Bool). b || anyOf u rs) (or-right (t q) here) ∙ there .1)
+
+pub none-either : (t u : Record → Bool) (rs : List Record) → anyOf t rs ≡ false → anyOf u rs ≡ false → anyOf (λ q. t q || u q) rs ≡ false
+unfolding anyOf
+none-either t u [] e f = refl
+none-either t u (q ∷ rs) e f =
+    ap (λ (b : Bool). (b || u q) || anyOf (λ p. t p || u p) rs) (or-left (t q) (anyOf t rs) e)
+    ∙ (ap (λ (b : Bool). b || anyOf (λ p. t p || u p) rs) (or-left (u q) (anyOf u rs) f)
+    ∙ none-either t u rs (or-right (t q) e) (or-right (u q) f))
+
 -- one more than the largest number of the records that a test picks, 0 where it picks none
 unfoldable pub topIn : (Record → Bool) → (Record → ℕ) → List Record → ℕ
 topIn t f [] = 0
 topIn t f (r ∷ rs) = max (cond (t r) (suc (f r)) 0) (topIn t f rs)
 
--- the lowest barrier that a barrier record may still name, and the lowest worker with no step yet, so far as the order goes
+-- the lowest barrier that a barrier record may still name, the lowest worker that a sleep record may, and the lowest worker with no step yet,
+-- so far as the order goes
 abbrev pub lowIn : List Record → ℕ
 lowIn rs = topIn isBarrier (λ r. r .register) rs
+
+abbrev pub dozingIn : List Record → ℕ
+dozingIn rs = topIn isSleep (λ r. r .worker) rs
 
 abbrev pub openedIn : List Record → ℕ
 openedIn rs = topIn isStep (λ r. r .worker) rs
@@ -109,6 +130,10 @@ any-implied t u (q ∷ rs) f e =
     split (t q) (λ p. absurd (true≢false (sym (f q p) ∙ or-left (u q) (anyOf u rs) e)))
     (λ p. ap (λ (b : Bool). b || anyOf t rs) p ∙ any-implied t u rs f (or-right (u q) e))
 
+-- a test that holds of one holds where it implies another
+pub any-other : (t u : Record → Bool) (rs : List Record) → ((q : Record) → t q ≡ true → u q ≡ true) → anyOf t rs ≡ true → anyOf u rs ≡ true
+any-other t u rs f e = split (anyOf u rs) (λ p. p) (λ p. absurd (true≢false (sym e ∙ any-implied t u rs f p)))
+
 -- a barrier record that ascends names a new barrier
 pub names-new : (rs : List Record) (b : ℕ) → lowIn rs ≤ b → anyOf (names b) rs ≡ false
 names-new rs b h =
@@ -117,6 +142,27 @@ names-new rs b h =
     ap (λ (t : Bool). t && leb b (q .register)) (and-left (isBarrier q) (eqb (q .register) b) e)
     ∙ le-leb b (q .register) (let s = eqb-true (q .register) b (and-right (isBarrier q) (eqb (q .register) b) e) in omega arith))
     (any-reaches isBarrier (λ q. q .register) b rs ∙ le-ltb b (lowIn rs) h)
+
+-- The sleepers.
+pub sleepers-other : (rs : List Record) (r : Record) → isSleep r ≡ false → sleepersIn (rs ++ one r) ≡ sleepersIn rs
+unfolding sleepersIn
+sleepers-other [] r e = ap (λ (t : Bool). cond t (r .worker ∷ []) []) e
+sleepers-other (q ∷ rs) r e = ap (λ (ws : List ℕ). cond (isSleep q) (q .worker ∷ ws) ws) (sleepers-other rs r e)
+
+pub sleepers-new : (rs : List Record) (r : Record) → isSleep r ≡ true → sleepersIn (rs ++ one r) ≡ sleepersIn rs ++ (r .worker ∷ [])
+unfolding sleepersIn
+sleepers-new [] r e = ap (λ (t : Bool). cond t (r .worker ∷ []) []) e
+sleepers-new (q ∷ rs) r e = ap (λ (ws : List ℕ). cond (isSleep q) (q .worker ∷ ws) ws) (sleepers-new rs r e) ∙ go (isSleep q)
+  where
+    go : (t : Bool) → cond t (q .worker ∷ (sleepersIn rs ++ (r .worker ∷ []))) (sleepersIn rs ++ (r .worker ∷ [])) ≡ cond t (q .worker ∷ sleepersIn rs) (sleepersIn rs) ++ (r .worker ∷ [])
+    go true = refl
+    go false = refl
+
+pub no-sleepers : (rs : List Record) → anyOf isSleep rs ≡ false → sleepersIn rs ≡ []
+unfolding sleepersIn anyOf
+no-sleepers [] e = refl
+no-sleepers (q ∷ rs) e =
+    ap (λ (t : Bool). cond t (q .worker ∷ sleepersIn rs) (sleepersIn rs)) (or-left (isSleep q) (anyOf isSleep rs) e) ∙ no-sleepers rs (or-right (isSleep q) e)
 
 -- The steps.
 pub stepsIn-append : (rs qs : List Record) (w : ℕ) → stepsIn (rs ++ qs) w ≡ stepsIn rs w ++ stepsIn qs w

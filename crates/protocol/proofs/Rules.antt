@@ -1,18 +1,19 @@
 -- Every rule of Rounds is lawful.
 use Prim.Native.Nat.{ℕ, _+_, _-_, _<_, _≤_}
+use native.Mathlib.Decide.{ℕ-discrete}
 use native.Mathlib.Omega.{arith}
 use mathlib.Core.Bool.{Bool, true, false, cond, not}
 use mathlib.Core.Path.{_≡_, refl, sym, ap, _∙_}
 use mathlib.Core.List.{List, [], _∷_}
 use lib.Dec.{eqb, ltb}
 use lib.ListN.{length, getD}
-use Rattle.protocol.specs.Format.{Sync, lock, unlock, wait, signal, broadcast, barrier, exit, sync, Plan}
-use Rattle.protocol.specs.Steps.{QueueName, onCondition, atBarrier, Fate, going, exited, failed, waiting, stepsOf, stepAt}
-use Rattle.protocol.specs.Rounds.{State, workerAt, waitsOn, keep, queueOf, Uncommitted, committed, lost, Goes, keeps, gives, leaves, ruling, failure, givesAtZero}
-use Rattle.protocol.specs.Rounds.{commitsAtZero, lockRule, unlockRule, waitRule, signalRule, barrierRule, exitRule, ruleOf, fateAfter, hasArrived}
+use Rattle.protocol.specs.Format.{Sync, lock, unlock, wait, signal, broadcast, barrier, startWorker, exit, sync, Plan}
+use Rattle.protocol.specs.Steps.{QueueName, onCondition, atBarrier, Fate, going, exited, failed, asleep, waiting, stepsOf, stepAt}
+use Rattle.protocol.specs.Rounds.{State, workerAt, waitsOn, keep, queueOf, fateIn, isAsleep, Uncommitted, committed, lost, Goes, keeps, gives, leaves, ruling, failure, givesAtZero}
+use Rattle.protocol.specs.Rounds.{commitsAtZero, lockRule, unlockRule, waitRule, signalRule, barrierRule, startRule, exitRule, ruleOf, fateAfter, hasArrived}
 use Rattle.protocol.specs.Demands.{occurs}
-use Rattle.protocol.proofs.Invariant.{runs, gone, Core}
-use Rattle.protocol.proofs.Counting.{clash, occurs-empty, occurs-first, occurs-kept, occurs-dropped}
+use Rattle.protocol.proofs.Invariant.{runs, waits, rests, gone, Core}
+use Rattle.protocol.proofs.Counting.{clash, occurs-one, occurs-none, occurs-empty, occurs-first, occurs-kept, occurs-dropped}
 use Rattle.protocol.proofs.OwnMoves.{Listed, inside-steps}
 use Rattle.protocol.proofs.Rulings.{Leaving, Lawful}
 
@@ -38,12 +39,14 @@ waits-runs : (q : QueueName) (f : Fate) → waitsOn q f ≡ true → runs f ≡ 
 waits-runs q going e = clash e
 waits-runs q exited e = refl
 waits-runs q failed e = refl
+waits-runs q asleep e = refl
 waits-runs q (waiting p) e = refl
 
 waits-arrived : (q : QueueName) (f : Fate) → waitsOn q f ≡ true → hasArrived f ≡ hasArrived (waiting q)
 waits-arrived q going e = clash e
 waits-arrived q exited e = clash e
 waits-arrived q failed e = clash e
+waits-arrived q asleep e = clash e
 waits-arrived (onCondition c) (waiting (onCondition d)) e = refl
 waits-arrived (onCondition c) (waiting (atBarrier d)) e = clash e
 waits-arrived (atBarrier c) (waiting (onCondition d)) e = clash e
@@ -54,6 +57,27 @@ pub queue-arrived : (plan : Plan) (s : State) (q : QueueName) (w : ℕ) → Core
 queue-arrived plan s q w c l =
     let e : waitsOn q (workerAt s w .fate) ≡ true = queue-waits s q w l in
     c .sane w .still (waits-runs q (workerAt s w .fate) e) ∙ waits-arrived q (workerAt s w .fate) e
+
+-- a sleeper rests, has not arrived, and does not run
+
+pub record Sleeper (f : Fate) : Type 0 where
+  pub resting : rests f ≡ 1
+  pub still : runs f ≡ 0
+  pub away : hasArrived f ≡ false
+
+pub sleeper : (f : Fate) → isAsleep f ≡ true → Sleeper f
+sleeper going e = clash e
+sleeper exited e = clash e
+sleeper failed e = clash e
+sleeper asleep e = record { resting = refl; still = refl; away = refl }
+sleeper (waiting q) e = clash e
+
+pub waiter-awake : (f : Fate) → 0 < waits f → isAsleep f ≡ false
+waiter-awake going h = refl
+waiter-awake exited h = refl
+waiter-awake failed h = refl
+waiter-awake asleep h = absurd (omega arith)
+waiter-awake (waiting q) h = refl
 
 -- the rules
 
@@ -144,9 +168,35 @@ module _ (plan : Plan) (s : State) (h : ℕ) (c : Core plan s) (l : Listed plan 
         go false true = quiet _ _ (leaves (waiting (atBarrier b))) _ (omega (arith, c .sane h .heldPlace)) (c .sane h .heldSteps) (omega arith) refl
         go false false =
             record {
-              out = λ w. queue-counts s (atBarrier b) w;
+              out = λ w. omega (arith, queue-counts s (atBarrier b) w);
               woken = λ w z. absurd (omega (arith, occurs-empty w));
               joined = λ w z. queue-arrived plan s (atBarrier b) w c z;
+              heldPlace = omega (arith, c .sane h .heldPlace);
+              heldSteps = c .sane h .heldSteps;
+              within = omega arith;
+              leaving = tt;
+            }
+
+    starts : (v : ℕ) → Lawful plan s h (startRule v (fateIn s v) (workerAt s h .held))
+    starts v = go (isAsleep (fateIn s v)) refl
+      where
+        k : ℕ
+        k = workerAt s h .held
+
+        go : (b : Bool) → isAsleep (fateIn s v) ≡ b → Lawful plan s h (cond b (ruling committed k keeps [] (v ∷ []) 1) (ruling committed k keeps [] [] 253))
+        go false e = quiet _ _ keeps _ (omega (arith, c .sane h .heldPlace)) (c .sane h .heldSteps) (omega arith) tt
+        go true e =
+            let z : Sleeper (fateIn s v) = sleeper (fateIn s v) e in
+            record {
+              out = λ w. elim (ℕ-discrete w v) [
+                | yes p ↦ rw p (omega (arith, occurs-one v, z .resting))
+                | no p ↦ omega (arith, occurs-none w v p)
+              ];
+              woken = λ w o. absurd (omega (arith, occurs-empty w));
+              joined = λ w o. elim (ℕ-discrete w v) [
+                | yes p ↦ rw p (c .sane v .still (z .still) ∙ z .away)
+                | no p ↦ absurd (omega (arith, occurs-none w v p))
+              ];
               heldPlace = omega (arith, c .sane h .heldPlace);
               heldSteps = c .sane h .heldSteps;
               within = omega arith;
@@ -161,6 +211,7 @@ isReal (wait q) = true
 isReal (signal q) = true
 isReal (broadcast q) = true
 isReal (barrier b) = true
+isReal (startWorker v) = true
 isReal exit = false
 
 real-inside : (plan : Plan) (w k : ℕ) (y : Sync) → isReal y ≡ true → stepAt plan w k ≡ sync y → k < length (stepsOf plan w)
@@ -168,18 +219,19 @@ real-inside plan w k y r e =
     inside-steps plan w k λ x. let z : y ≡ exit = cc in clash (sym (ap isReal z) ∙ r)
 
 pub rule-lawful : (plan : Plan) (s : State) (h : ℕ) (y : Sync) → Core plan s → Listed plan s h → stepAt plan h (workerAt s h .place) ≡ sync y
-    → Lawful plan s h (ruleOf plan (queueOf s) (workerAt s h .held) y)
+    → Lawful plan s h (ruleOf plan (queueOf s) (fateIn s) (workerAt s h .held) y)
 unfolding ruleOf
 rule-lawful plan s h y c l e = go y e
   where
     k : ℕ
     k = workerAt s h .place
 
-    go : (y : Sync) → stepAt plan h (workerAt s h .place) ≡ sync y → Lawful plan s h (ruleOf plan (queueOf s) (workerAt s h .held) y)
+    go : (y : Sync) → stepAt plan h (workerAt s h .place) ≡ sync y → Lawful plan s h (ruleOf plan (queueOf s) (fateIn s) (workerAt s h .held) y)
     go (lock n) e = locks plan s h c l (real-inside plan h k (lock n) refl e)
     go (unlock n) e = unlocks plan s h c l (real-inside plan h k (unlock n) refl e)
     go (wait q) e = waits-on plan s h c l (real-inside plan h k (wait q) refl e) q
     go (signal q) e = signals plan s h c l (real-inside plan h k (signal q) refl e) q
     go (broadcast q) e = signals plan s h c l (real-inside plan h k (broadcast q) refl e) q
     go (barrier b) e = meets plan s h c l (real-inside plan h k (barrier b) refl e) b (getD (plan .sizes) b 0)
+    go (startWorker v) e = starts plan s h c l (real-inside plan h k (startWorker v) refl e) v
     go exit e = exits plan s h c l

@@ -8,16 +8,16 @@ use mathlib.Core.Path.{_≡_, refl, _∙_, subst⁻¹}
 use mathlib.Core.List.{List, _∷_, _++_}
 use lib.ListN.{length, getD, set, length-set, length-append}
 use Rattle.protocol.specs.Format.{Sync, wait, Plan}
-use Rattle.protocol.specs.Steps.{Fate, going, exited, failed, waiting, Worker, newWorker, fateAs, stepsOf}
+use Rattle.protocol.specs.Steps.{Fate, going, exited, failed, asleep, waiting, Worker, newWorker, fateAs, stepsOf}
 use Rattle.protocol.specs.Rounds.{State, workerAt, Goes, keeps, gives, leaves, Ruling, fateAfter, hasArrived, arrivedAfter, afterRuling, staysIn, joinsNext}
 use Rattle.protocol.specs.Rounds.{joinsWaiting, member, without, freed, apply}
 use Rattle.protocol.specs.Turns.{workersOf, allArrived}
 use Rattle.protocol.specs.Demands.{occurs}
-use Rattle.protocol.proofs.Invariant.{sumOf, runs, waits, gone, tick, lasting, weight, weightIn, placeOf, measure, Sane, Stands, Core}
+use Rattle.protocol.proofs.Invariant.{sumOf, runs, waits, rests, gone, tick, lasting, weight, weightIn, placeOf, measure, Sane, Stands, Core}
 use Rattle.protocol.proofs.Counting.{occurs-same, occurs-other, occurs-one, occurs-none, occurs-empty, occurs-append, occurs-kept, occurs-dropped, member-some}
 use Rattle.protocol.proofs.Counting.{member-none, some-member, each-set, sum-falls, sum-rises, freed-length, freed-at}
 use Rattle.protocol.proofs.Fence.{all-arrived, arrived-all}
-use Rattle.protocol.proofs.OwnMoves.{one-fate, waiter-exists, lasting-here, lasting-gone, Listed, listed}
+use Rattle.protocol.proofs.OwnMoves.{one-fate, idler-exists, lasting-here, lasting-gone, Listed, listed}
 
 -- a rule that sends the holder away gives it a fate in which it does not run
 abbrev pub Leaving : Goes → Type 0
@@ -27,8 +27,8 @@ Leaving (leaves f) = runs f ≡ 0
 
 -- What every rule keeps to.
 pub record Lawful (plan : Plan) (s : State) (h : ℕ) (r : Ruling) : Type 0 where
-  -- whom it moves, it takes out of the waiting list, each once
-  pub out : (w : ℕ) → occurs w (r .wakes ++ r .joins) ≤ occurs w (s .waiting)
+  -- whom it moves, it takes out of the waiting list or out of sleep, each once
+  pub out : (w : ℕ) → occurs w (r .wakes ++ r .joins) ≤ occurs w (s .waiting) + rests (workerAt s w .fate)
   pub woken : (w : ℕ) → 0 < occurs w (r .wakes) → workerAt s w .arrived ≡ true
   pub joined : (w : ℕ) → 0 < occurs w (r .joins) → workerAt s w .arrived ≡ false
   pub heldPlace : r .held ≤ workerAt s h .place + 1
@@ -49,6 +49,7 @@ settled-waiting gives h = occurs-empty h
 settled-waiting (leaves going) h = occurs-empty h
 settled-waiting (leaves exited) h = occurs-empty h
 settled-waiting (leaves failed) h = occurs-empty h
+settled-waiting (leaves asleep) h = occurs-empty h
 settled-waiting (leaves (waiting q)) h = occurs-one h
 
 settled-fresh : (g : Goes) (h : ℕ) → 0 < occurs h (joinsNext g h) → arrivedAfter g ≡ false
@@ -78,6 +79,7 @@ apart w h gives ne = record { stay = occurs-empty w; next = occurs-none w h ne; 
 apart w h (leaves going) ne = record { stay = occurs-empty w; next = occurs-empty w; wait = occurs-empty w }
 apart w h (leaves exited) ne = record { stay = occurs-empty w; next = occurs-empty w; wait = occurs-empty w }
 apart w h (leaves failed) ne = record { stay = occurs-empty w; next = occurs-empty w; wait = occurs-empty w }
+apart w h (leaves asleep) ne = record { stay = occurs-empty w; next = occurs-empty w; wait = occurs-empty w }
 apart w h (leaves (waiting q)) ne = record { stay = occurs-empty w; next = occurs-empty w; wait = occurs-none w h ne }
 
 -- those taken out of the waiting list are in it no more
@@ -106,13 +108,13 @@ holder-lighter steps r v g a p p′ = rw (g, a) (go (gone (fateAfter (r .goes)))
     b : Bool
     b = arrivedAfter (r .goes)
 
-    go : (k : ℕ) → gone f ≡ k → runs f + waits f + gone f ≡ 1 → v .place + 1 ≤ steps + gone f
+    go : (k : ℕ) → gone f ≡ k → runs f + waits f + rests f + gone f ≡ 1 → v .place + 1 ≤ steps + gone f
         → lasting f (2 * (steps + 1 - (v .place + 1)) - tick b) < 2 * (steps + 1 - v .place) - 1
     go zero e one l = omega (arith, lasting-here f (2 * (steps + 1 - (v .place + 1)) - tick b) e)
     go (suc zero) e one l = omega (arith, lasting-gone f (2 * (steps + 1 - (v .place + 1)) - tick b) e)
     go (suc (suc k)) e one l = absurd (omega arith)
 
--- what comes out of the waiting list runs again, with nothing else about it changed
+-- what comes out of the waiting list or out of sleep runs, with nothing else about it changed
 freed-case : (out : List ℕ) (vs : List Worker) (w : ℕ) (P : Worker → Type 0) → (0 < occurs w out → P (fateAs going (getD vs w newWorker)))
     → (occurs w out ≡ 0 → P (getD vs w newWorker)) → P (getD (freed out vs) w newWorker)
 freed-case out vs w P f g = subst⁻¹ P (freed-at out vs w) (go (member w out) refl)
@@ -155,8 +157,8 @@ module _ (plan : Plan) (s : State) (y : Sync) (r : Ruling) (h : ℕ) (rest : Lis
   holder : Listed plan s h
   holder = listed plan s h c (rw e (omega (arith, occurs-same h rest)))
 
-  waiter : (w : ℕ) → 0 < occurs w (outOf r) → waits (workerAt s w .fate) ≡ 1
-  waiter w l = omega (arith, law .out w, c .stands w .queued, one-fate (workerAt s w .fate))
+  idler : (w : ℕ) → 0 < occurs w (outOf r) → waits (workerAt s w .fate) + rests (workerAt s w .fate) ≡ 1
+  idler w l = omega (arith, law .out w, c .stands w .queued, one-fate (workerAt s w .fate))
 
   small : h < length (freed (outOf r) (s .workers))
   small = rw (freed-length (outOf r) (s .workers), c .size) (holder .known)
@@ -165,7 +167,7 @@ module _ (plan : Plan) (s : State) (y : Sync) (r : Ruling) (h : ℕ) (rest : Lis
   others-sane w =
       freed-case (outOf r) (s .workers) w (Sane (length (stepsOf plan w)))
       (λ l. record {
-        within = omega (arith, waiter w l, one-fate (workerAt s w .fate), c .sane w .within);
+        within = omega (arith, idler w l, one-fate (workerAt s w .fate), c .sane w .within);
         heldPlace = c .sane w .heldPlace;
         heldSteps = c .sane w .heldSteps;
         still = λ z. absurd (omega arith);
@@ -178,16 +180,16 @@ module _ (plan : Plan) (s : State) (y : Sync) (r : Ruling) (h : ℕ) (rest : Lis
       let n : OccursAfter w r h rest (s .next) (s .waiting) = counted w r h rest (s .next) (s .waiting) in
       let p : Apart w h (r .goes) = apart w h (r .goes) ne in
       let l : occurs w (s .list) ≡ occurs w rest = rw e (occurs-other w h rest ne) in
-      let one : runs (workerAt s w .fate) + waits (workerAt s w .fate) + gone (workerAt s w .fate) ≡ 1 = one-fate (workerAt s w .fate) in
+      let one : runs (workerAt s w .fate) + waits (workerAt s w .fate) + rests (workerAt s w .fate) + gone (workerAt s w .fate) ≡ 1 = one-fate (workerAt s w .fate) in
       let st : Stands (workersOf plan) w (s .list) (s .next) (s .waiting) (workerAt s w) = c .stands w in
       freed-case (outOf r) (s .workers) w (Stands (workersOf plan) w (listAfter r h rest) (nextAfter r h (s .next)) (waitingAfter r h (s .waiting)))
       (λ o.
-      let z : waits (workerAt s w .fate) ≡ 1 = waiter w o in
+      let z : waits (workerAt s w .fate) + rests (workerAt s w .fate) ≡ 1 = idler w o in
       record {
         inside = λ k. omega (arith, st .inside k, law .out w, st .queued);
-        outside = λ k. absurd (omega (arith, waiter-exists plan s w c (omega arith)));
+        outside = λ k. absurd (omega (arith, idler-exists plan s w c (omega arith)));
         queued = omega (arith, without-out w (outOf r) (s .waiting) o);
-        fresh = λ k. law .joined w (omega (arith, st .inside (waiter-exists plan s w c (omega arith))));
+        fresh = λ k. law .joined w (omega (arith, st .inside (idler-exists plan s w c (omega arith))));
       })
       (λ o. record {
         inside = λ k. omega (arith, st .inside k);
@@ -224,7 +226,7 @@ module _ (plan : Plan) (s : State) (y : Sync) (r : Ruling) (h : ℕ) (rest : Lis
       freed-case (outOf r) (s .workers) w (λ v. weightIn plan w v ≤ weightIn plan w (workerAt s w))
       (λ o.
       let left = 2 * (length (stepsOf plan w) + 1 - workerAt s w .place) - tick (workerAt s w .arrived) in
-      omega (arith, lasting-here (workerAt s w .fate) left (omega (arith, waiter w o, one-fate (workerAt s w .fate)))))
+      omega (arith, lasting-here (workerAt s w .fate) left (omega (arith, idler w o, one-fate (workerAt s w .fate)))))
       (λ o. le-refl _)
 
   pub applied-falls : measure plan (apply y r h rest s) < measure plan s

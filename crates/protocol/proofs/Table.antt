@@ -1,5 +1,5 @@
 -- Document 01, "Plans to check against": cases 1 to 10 as one table, each with the bytes that it leaves, worked out by hand. Behind them
--- stands a plan of our own, for a sentence that none of the ten shows.
+-- stand plans of our own: for a sentence that none of the ten shows, and for the requests of document 02.
 use Prim.Native.Nat.{ℕ, _-_, _/_, _%_}
 use mathlib.Core.List.{List, [], _∷_, _++_}
 use lib.ListN.{length, replicate}
@@ -65,6 +65,9 @@ rec worker op register number = 0x4D ∷ 0x50 ∷ worker ∷ op ∷ register ∷
 
 abbrev planRec : ℕ → List ℕ
 planRec n = rec n 0 0 0
+
+abbrev sleepRec : ℕ → List ℕ
+sleepRec w = rec w 2 0 0
 
 -- a record of the log, in a round below 256
 abbrev entry : ℕ → ℕ → ℕ → ℕ → ℕ → List ℕ
@@ -143,4 +146,21 @@ cases =
     ∷ case (planRec 1 ++ rec 0 18 0 0 ++ rec 0 18 1 2 ++ rec 0 18 2 4 ++ rec 0 18 3 6) (replicate 8 8) listing []
     (entry 1 0 38 0 255)
     (report 1 1 6 1 1 (one 1))
+    -- One: "A plan is finished when every worker exited, failed or sleeps": nobody starts worker 1, whose store is never made.
+    ∷ case (planRec 2 ++ sleepRec 1 ++ stores 1 7) [] listing [] (entry 1 0 38 0 255) (report 1 2 2 1 1 (both 1 5))
+    -- One: "1, or 253 if the worker wasn't asleep": worker 0 starts worker 1 twice, keeps the token and stores 7 at 0, worker 1 starts worker 2
+    -- in round 2, and worker 2 copies the word at 0 to 2 in round 3.
+    ∷ case
+    (planRec 3 ++ sleepRec 1 ++ sleepRec 2 ++ rec 0 39 0 1 ++ rec 0 39 0 1 ++ stores 0 7 ++ rec 1 39 0 2 ++ rec 2 17 0 0 ++ rec 2 18 0 2)
+    [] listing (7 ∷ 0 ∷ 7 ∷ [])
+    (entry 1 0 39 1 1 ++ entry 1 0 39 1 253 ++ entry 1 0 38 0 255 ++ entry 2 1 39 2 1 ++ entry 2 1 38 0 255 ++ entry 3 2 38 0 255)
+    (report 1 3 13 3 6 (1 ∷ 1 ∷ 1 ∷ replicate 5 255))
+    -- One: "the sleeper joins the tail of the next round's list": worker 3, started by worker 1, is there before worker 0, whom worker 1 frees
+    -- from the barrier, worker 1 itself, and worker 2. The store between start and barrier is committed by the barrier.
+    ∷ case
+    (planRec 4 ++ rec 0 1 0 2 ++ sleepRec 3 ++ rec 0 37 0 0 ++ rec 1 39 0 3 ++ stores 1 5 ++ rec 1 37 0 0 ++ locked 2 [])
+    [] listing (5 ∷ [])
+    (entry 1 0 37 0 0 ++ entry 1 1 39 3 1 ++ entry 1 1 37 0 2 ++ entry 1 2 32 0 1 ++ entry 1 2 33 0 0
+    ++ entry 2 3 38 0 255 ++ entry 2 0 38 0 255 ++ entry 2 1 38 0 255 ++ entry 2 2 38 0 255)
+    (report 1 4 18 2 9 (1 ∷ 1 ∷ 1 ∷ 1 ∷ replicate 4 255))
     ∷ []

@@ -1,4 +1,4 @@
--- Document 01, "Who can cause which refusal", as a description: the condition of each refusal, and the order in which they are tested.
+-- Document 01, "Who can cause which refusal", and document 02, One, as a description: the condition of each refusal, and the order in which they are tested.
 -- `Refusals` and `Calls` work the verdicts out; that the first test whose condition holds decides them is proved.
 use Prim.Native.Nat.{ℕ, zero, suc, _%_, _<_, _≤_}
 use mathlib.Core.Bool.{true, false}
@@ -7,15 +7,15 @@ use mathlib.Core.Logic.{_⊎_}
 use mathlib.Core.List.{List, [], _∷_, _++_}
 use mathlib.Core.Option.{some}
 use lib.ListN.{length, getD}
-use Rattle.protocol.specs.Ops.{opPlanRecord, opBarrier}
-use Rattle.protocol.specs.Format.{Record, Row, recordLength, fileLimit, planMark, recordCount, records, planOf, rowOf, isBarrier, isStep, isSkip, workersIn, stepsLimit}
-use Rattle.protocol.specs.Refusals.{Refusal, badLength, badMark, badPlan, badBarrier, badWorker, badOp, badOperand, tooManySteps, noSize, skipTooFar, badBuffer, tooManyTurns, badTurn}
+use Rattle.protocol.specs.Ops.{opPlanRecord, opBarrier, opStart}
+use Rattle.protocol.specs.Format.{Record, Row, recordLength, fileLimit, planMark, recordCount, records, planOf, rowOf, isBarrier, isSleep, isStep, isSkip, workersIn, stepsLimit}
+use Rattle.protocol.specs.Refusals.{Refusal, badLength, badMark, badPlan, badBarrier, badWorker, badOp, badOperand, tooManySteps, noSize, skipTooFar, badBuffer, tooManyTurns, badTurn, badSleep}
 use Rattle.protocol.specs.Refusals.{Verdict, accepted, refused}
 use Rattle.protocol.specs.Turns.{workersOf}
 use Rattle.protocol.specs.Calls.{Buffers, turnsLimit}
-use Rattle.protocol.specs.WellFormed.{recordAt, PlanRecord, BarrierRecord, stepsBefore, stepsBehind, Fitting}
+use Rattle.protocol.specs.WellFormed.{recordAt, PlanRecord, BarrierRecord, SleepRecord, stepsBefore, stepsBehind, Fitting}
 
--- "1, file length 0, not a multiple of 7, or above 7,231"
+-- "1, file length 0, not a multiple of 7, or above" 7,280
 abbrev pub LengthAmiss : List ℕ → Type 0
 LengthAmiss file = (length file ≡ 0) ⊎ ((length file % recordLength ≡ 0 → ⊥) ⊎ (fileLimit < length file))
 
@@ -33,16 +33,23 @@ NoPlan i r = ((i ≡ 0) × (PlanRecord r → ⊥)) ⊎ ((1 ≤ i) × (r .op ≡ 
 abbrev pub Before : List Record → ℕ → (Record → Type 0) → Type 0
 Before rs i P = (k : ℕ) × (k < i) × P (recordAt rs k)
 
--- "4 barrier record out of order, after a step, or with any field out of range"
+-- "4 barrier record out of order, after a step, or with any field out of range"; One: "A barrier record behind a sleep record is 4."
 abbrev pub BarrierAmiss : List Record → ℕ → Record → Type 0
 BarrierAmiss rs i r =
     (isBarrier r ≡ true)
     × (Before rs i (λ q. (isBarrier q ≡ true) × (r .register ≤ q .register))
-    ⊎ (Before rs i (λ q. isStep q ≡ true) ⊎ (BarrierRecord r → ⊥)))
+    ⊎ (Before rs i (λ q. (isSleep q ≡ true) ⊎ (isStep q ≡ true)) ⊎ (BarrierRecord r → ⊥)))
 
--- "6 unknown op": neither that of a plan record nor that of a barrier record, and without a row
+-- One: "14, a sleep record for worker 0 or one not below n, out of order or place, or with other bytes not zero"
+abbrev pub SleepAmiss : List Record → ℕ → Record → Type 0
+SleepAmiss rs i r =
+    (isSleep r ≡ true)
+    × (Before rs i (λ q. (isSleep q ≡ true) × (r .worker ≤ q .worker))
+    ⊎ (Before rs i (λ q. isStep q ≡ true) ⊎ (SleepRecord (workersIn rs) r → ⊥)))
+
+-- "6 unknown op": neither that of a plan record, nor that of a barrier record or a sleep record, and without a row
 abbrev pub UnknownOp : Record → Type 0
-UnknownOp r = (r .op ≡ opPlanRecord → ⊥) × (isBarrier r ≡ false) × (isStep r ≡ false)
+UnknownOp r = (r .op ≡ opPlanRecord → ⊥) × (isBarrier r ≡ false) × (isSleep r ≡ false) × (isStep r ≡ false)
 
 -- "5 step's worker not below n, or falling"
 abbrev pub WorkerAmiss : List Record → ℕ → Record → Type 0
@@ -54,12 +61,13 @@ WorkerAmiss rs i r =
 abbrev pub StepBeyond : List Record → ℕ → Record → Type 0
 StepBeyond rs i r = (isStep r ≡ true) × (stepsLimit ≤ stepsBefore rs i r)
 
--- "7 operand out of range"
-abbrev pub OperandOutside : Record → Type 0
-OperandOutside r =
-    (x : Row)
+-- "7 operand out of range"; One: a start of "a worker" not "below n"
+abbrev pub OperandOutside : List Record → Record → Type 0
+OperandOutside rs r =
+    ((x : Row)
     × (rowOf (r .op) ≡ some x)
-    × ((x .registers < r .register) ⊎ ((r .number < x .least) ⊎ (x .most < r .number)))
+    × ((x .registers < r .register) ⊎ ((r .number < x .least) ⊎ (x .most < r .number))))
+    ⊎ ((r .op ≡ opStart) × (workersIn rs ≤ r .number))
 
 -- "9 barrier without a size"
 abbrev pub SizeMissing : List Record → ℕ → Record → Type 0
@@ -78,16 +86,17 @@ pub record Test : Type 1 where
 abbrev pub test : Refusal → ℕ → Type 0 → Test
 test f i c = record { refusal = f; index = i; due = c }
 
--- "record by record in the order just written up to 9"
+-- "record by record in the order just written up to 9"; One: 14 "is tested where 4 is"
 abbrev pub testsOf : List Record → ℕ → Record → List Test
 testsOf rs i r =
     test badMark i (NoMark r)
     ∷ test badPlan i (NoPlan i r)
     ∷ test badBarrier i (BarrierAmiss rs i r)
+    ∷ test badSleep i (SleepAmiss rs i r)
     ∷ test badOp i (UnknownOp r)
     ∷ test badWorker i (WorkerAmiss rs i r)
     ∷ test tooManySteps i (StepBeyond rs i r)
-    ∷ test badOperand i (OperandOutside r)
+    ∷ test badOperand i (OperandOutside rs r)
     ∷ test noSize i (SizeMissing rs i r)
     ∷ []
 

@@ -1,11 +1,11 @@
--- Document 01, "Plan file": records of 7 bytes, the table of steps, and the plan that a file holds.
+-- Document 01, "Plan file", and document 02, One: records of 7 bytes, the table of steps, and the plan that a file holds.
 use Prim.Native.Nat.{ℕ, zero, suc, _+_, _-_, _*_, _/_}
 use mathlib.Core.Bool.{Bool, true, false, cond, _&&_, _||_}
 use mathlib.Core.List.{List, [], _∷_, map}
 use mathlib.Core.Option.{Option, none, some}
 use lib.Dec.{leb, eqb}
 use lib.ListN.{length, getD}
-use Rattle.protocol.specs.Ops.{opBarrierRecord, opSet, opLoad, opStore, opAdd, opSubtract, opSkipZero, opSkipNonzero, opLock, opUnlock, opWait, opSignal, opBroadcast, opBarrier, opExit}
+use Rattle.protocol.specs.Ops.{opBarrierRecord, opSleepRecord, opSet, opLoad, opStore, opAdd, opSubtract, opSkipZero, opSkipNonzero, opLock, opUnlock, opWait, opSignal, opBroadcast, opBarrier, opExit, opStart}
 
 -- "Two-byte numbers are low byte first."
 abbrev pub word : ℕ → ℕ → ℕ
@@ -53,9 +53,9 @@ skipLimit = 127
 abbrev pub stepsLimit : ℕ
 stepsLimit = 128
 
--- the longest file: a plan record, and as many barrier records and steps of each worker as there may be
+-- One: "Files may reach 7,280 bytes": a plan record, and as many barrier records, sleep records and steps of each worker as there may be
 abbrev pub fileLimit : ℕ
-fileLimit = 7231
+fileLimit = 7280
 
 abbrev pub recordsLimit : ℕ
 recordsLimit = fileLimit / recordLength
@@ -95,7 +95,7 @@ pub data Own : Type 0 where
   assign load store add subtract skipZero skipNonzero : ℕ → ℕ → Own
 
 pub data Sync : Type 0 where
-  lock unlock wait signal broadcast barrier : ℕ → Sync
+  lock unlock wait signal broadcast barrier startWorker : ℕ → Sync
   exit : Sync
 
 pub data Step : Type 0 where
@@ -136,6 +136,8 @@ table =
     ∷ syncRow opBroadcast broadcast conditionLimit
     ∷ syncRow opBarrier barrier (barrierCount - 1)
     ∷ syncRow opExit (λ k. exit) 0
+    -- One: "Op 39, start, has register 0 and a worker below n as number": the row holds what every plan shares, and the check asks for n
+    ∷ syncRow opStart startWorker (workersLimit - 1)
     ∷ []
 
 unfoldable pub rowIn : List Row → ℕ → Option Row
@@ -154,6 +156,9 @@ stepOf r = elim (rowOf (r .op)) [ none ↦ sync exit | some x ↦ x .step (r .re
 
 abbrev pub isBarrier : Record → Bool
 isBarrier r = eqb (r .op) opBarrierRecord
+
+abbrev pub isSleep : Record → Bool
+isSleep r = eqb (r .op) opSleepRecord
 
 abbrev pub isStep : Record → Bool
 isStep r = known (r .op)
@@ -174,6 +179,11 @@ workersIn (r ∷ rs) = r .worker
 unfoldable pub sizeIn : List Record → ℕ → ℕ
 sizeIn [] b = 0
 sizeIn (r ∷ rs) b = cond (isBarrier r && eqb (r .register) b) (r .number) (sizeIn rs b)
+
+-- One: "op 2, worker byte = the sleeper": the sleepers, in the file's order
+unfoldable pub sleepersIn : List Record → List ℕ
+sleepersIn [] = []
+sleepersIn (r ∷ rs) = cond (isSleep r) (r .worker ∷ sleepersIn rs) (sleepersIn rs)
 
 -- a worker's steps, in the file's order
 unfoldable pub stepsIn : List Record → ℕ → List Step
@@ -198,16 +208,18 @@ countFrom (suc k) i = i ∷ countFrom k (suc i)
 abbrev pub upTo : ℕ → List ℕ
 upTo k = countFrom k 0
 
--- A plan: the steps of worker 0, 1, .. n − 1, and the size of each barrier.
+-- A plan: the steps of worker 0, 1, .. n − 1, the size of each barrier, and the workers that sleep at first.
 pub record Plan : Type 0 where
   pub steps : List (List Step)
   pub sizes : List ℕ
+  pub sleepers : List ℕ
 
 unfoldable pub planIn : List Record → Plan
 planIn rs =
     record {
       steps = map (λ w. stepsIn rs w) (upTo (workersIn rs));
       sizes = map (λ b. sizeIn rs b) (upTo barrierCount);
+      sleepers = sleepersIn rs;
     }
 
 abbrev pub planOf : List ℕ → Plan

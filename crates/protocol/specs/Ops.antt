@@ -1,4 +1,4 @@
--- Document 01, "Plan file": the ops by name. Two are those of the records that are no steps; the others are those of the table, in its order.
+-- Document 01, "Plan file": the ops by name. Three are those of the records that are no steps; the others are those of the table, in its order.
 use Prim.Native.Nat.{ℕ}
 
 abbrev pub opPlanRecord : ℕ
@@ -6,6 +6,9 @@ opPlanRecord = 0
 
 abbrev pub opBarrierRecord : ℕ
 opBarrierRecord = 1
+
+abbrev pub opSleepRecord : ℕ
+opSleepRecord = 2
 
 abbrev pub opSet : ℕ
 opSet = 16
@@ -49,3 +52,6 @@ opBarrier = 37
 
 abbrev pub opExit : ℕ
 opExit = 38
+
+abbrev pub opStart : ℕ
+opStart = 39

@@ -1,17 +1,17 @@
--- Document 01, "Who can cause which refusal": the refusals, and the check of a plan file.
+-- Document 01, "Who can cause which refusal", and document 02, One: the refusals, and the check of a plan file.
 use Prim.Native.Nat.{ℕ, suc, _+_, _*_, _%_}
 use mathlib.Core.Bool.{Bool, true, false, cond, not, _&&_, _||_}
 use mathlib.Core.List.{List, [], _∷_, _++_}
 use mathlib.Core.Option.{Option, none, some}
 use lib.Dec.{leb, ltb, eqb}
 use lib.ListN.{length}
-use Rattle.protocol.specs.Ops.{opPlanRecord, opBarrier}
-use Rattle.protocol.specs.Format.{Record, Row, records, recordLength, fileLimit, planMark, rowOf, known, isBarrier, isStep, isSkip, workersIn, stepsIn, workersLimit, barrierCount}
+use Rattle.protocol.specs.Ops.{opPlanRecord, opBarrier, opStart}
+use Rattle.protocol.specs.Format.{Record, Row, records, recordLength, fileLimit, planMark, rowOf, known, isBarrier, isSleep, isStep, isSkip, workersIn, stepsIn, workersLimit, barrierCount}
 use Rattle.protocol.specs.Format.{sizeLimit, stepsLimit}
 
 pub data Refusal : Type 0 where
   badLength badMark badPlan badBarrier badWorker badOp badOperand tooManySteps noSize skipTooFar : Refusal
-  badBuffer tooManyTurns badTurn : Refusal
+  badBuffer tooManyTurns badTurn badSleep : Refusal
 
 -- The paper's numbers.
 abbrev pub numberOf : Refusal → ℕ
@@ -28,6 +28,7 @@ numberOf skipTooFar = 10
 numberOf badBuffer = 11
 numberOf tooManyTurns = 12
 numberOf badTurn = 13
+numberOf badSleep = 14
 
 -- "A refusal returns its number and a record index (the plan record being 0; 0 unless stated)"
 pub data Verdict : Type 0 where
@@ -62,7 +63,7 @@ anyOf t (x ∷ xs) = t x || anyOf t xs
 abbrev pub outside : ℕ → ℕ → ℕ → Bool
 outside least most k = ltb k least || ltb most k
 
--- "1, file length 0, not a multiple of 7, or above 7,231"
+-- "1, file length 0, not a multiple of 7, or above" 7,280, as One has it
 abbrev pub wrongLength : ℕ → Bool
 wrongLength bytes = eqb bytes 0 || not (eqb (bytes % recordLength) 0) || ltb fileLimit bytes
 
@@ -81,21 +82,39 @@ planRule r = refuseIf (wrongPlan r) badPlan holds
 abbrev pub wrongBarrier : Record → Bool
 wrongBarrier r = not (eqb (r .worker) 0) || leb barrierCount (r .register) || outside 1 sizeLimit (r .number)
 
--- "4 barrier record out of order, after a step, or with any field out of range": "at most one record per barrier, ascending"
+-- Barrier records and sleep records stand in this order, before the steps, each kind ascending by a number of its own. One is misplaced
+-- behind a record of its kind whose number is no lower, and behind a record of a later kind.
+abbrev pub misplaced : (kind : Record → Bool) (number : Record → ℕ) (later : Record → Bool) → List Record → Record → Bool
+misplaced kind number later before r = anyOf (λ q. kind q && leb (number r) (number q)) before || anyOf later before
+
+-- "4 barrier record out of order, after a step, or with any field out of range": "at most one record per barrier, ascending"; One: "A
+-- barrier record behind a sleep record is 4."
+abbrev pub isBehindBarriers : Record → Bool
+isBehindBarriers q = isSleep q || isStep q
+
 unfoldable pub barrierRecordRule : List Record → Record → Rule
 barrierRecordRule before r =
-    refuseIf
-    (anyOf (λ q. isBarrier q && leb (r .register) (q .register)) before || anyOf isStep before || wrongBarrier r)
-    badBarrier
-    holds
+    refuseIf (misplaced isBarrier (λ q. q .register) isBehindBarriers before r || wrongBarrier r) badBarrier holds
+
+-- One: "14, a sleep record for worker 0 or one not below n, out of order or place, or with other bytes not zero; it is tested where 4 is"
+abbrev pub wrongSleep : ℕ → Record → Bool
+wrongSleep n r = eqb (r .worker) 0 || leb n (r .worker) || not (eqb (r .register) 0) || not (eqb (r .number) 0)
+
+unfoldable pub sleepRecordRule : List Record → Record → Rule
+sleepRecordRule before r =
+    refuseIf (misplaced isSleep (λ q. q .worker) isStep before r || wrongSleep (workersIn before) r) badSleep holds
 
 -- "7 operand out of range"
 unfoldable pub operandsOutside : Option Row → ℕ → ℕ → Bool
 operandsOutside none register number = true
 operandsOutside (some x) register number = ltb (x .registers) register || outside (x .least) (x .most) number
 
-abbrev pub wrongOperand : Record → Bool
-wrongOperand r = operandsOutside (rowOf (r .op)) (r .register) (r .number)
+-- One: "Op 39, start, has register 0 and a worker below n as number."
+abbrev pub startsNobody : ℕ → Record → Bool
+startsNobody n r = eqb (r .op) opStart && leb n (r .number)
+
+abbrev pub wrongOperand : ℕ → Record → Bool
+wrongOperand n r = operandsOutside (rowOf (r .op)) (r .register) (r .number) || startsNobody n r
 
 -- "5 step's worker not below n, or falling"
 abbrev pub wrongWorker : List Record → Record → Bool
@@ -111,16 +130,16 @@ stepRule before r =
     refuseIf (not (known (r .op))) badOp
     (refuseIf (wrongWorker before r) badWorker
     (refuseIf (leb stepsLimit (length (stepsIn before (r .worker)))) tooManySteps
-    (refuseIf (wrongOperand r) badOperand
+    (refuseIf (wrongOperand (workersIn before) r) badOperand
     (refuseIf (lacksSize before r) noSize holds))))
 
 -- "3 .. or op 0 later"
 unfoldable pub laterRule : List Record → Record → Rule
 laterRule before r =
     refuseIf (eqb (r .op) opPlanRecord) badPlan
-    (cond (isBarrier r) (barrierRecordRule before r) (stepRule before r))
+    (cond (isBarrier r) (barrierRecordRule before r) (cond (isSleep r) (sleepRecordRule before r) (stepRule before r)))
 
--- The rule of a record, by the records before it: "record by record in the order just written up to 9".
+-- The rule of a record, by the records before it: "record by record in the order just written up to 9", 14 "where 4 is".
 unfoldable pub recordRule : List Record → Record → Rule
 recordRule [] r = refuseIf (not (eqb (r .mark) planMark)) badMark (planRule r)
 recordRule (q ∷ qs) r = refuseIf (not (eqb (r .mark) planMark)) badMark (laterRule (q ∷ qs) r)

@@ -5,7 +5,7 @@ use mathlib.Core.List.{List, [], _∷_, _++_, map}
 use lib.Dec.{ltb}
 use lib.ListN.{length}
 use Rattle.protocol.specs.Format.{workersLimit, word, upTo}
-use Rattle.protocol.specs.Steps.{onCondition, atBarrier, Fate, going, exited, failed, waiting, Worker}
+use Rattle.protocol.specs.Steps.{onCondition, atBarrier, Fate, going, exited, failed, asleep, waiting, Worker}
 use Rattle.protocol.specs.Rounds.{Entry, State, workerAt}
 use Rattle.protocol.specs.Turns.{ended}
 
@@ -27,31 +27,32 @@ unfoldable pub logBytes : List Entry → List ℕ
 logBytes [] = []
 logBytes (e ∷ es) = entryBytes e ++ logBytes es
 
--- "finished if every worker exited or failed, else stuck"
+-- One: "A plan is finished when every worker exited, failed or sleeps", "else stuck"
 pub data End : Type 0 where
   underWay finished stuck : End
 
-abbrev pub hasLeft : Fate → Bool
-hasLeft f = elim f [ going ↦ false | exited ↦ true | failed ↦ true | waiting q ↦ false ]
+abbrev pub isFinal : Fate → Bool
+isFinal f = elim f [ going ↦ false | exited ↦ true | failed ↦ true | asleep ↦ true | waiting q ↦ false ]
 
-unfoldable pub allLeft : List Worker → Bool
-allLeft [] = true
-allLeft (v ∷ vs) = hasLeft (v .fate) && allLeft vs
+unfoldable pub allFinal : List Worker → Bool
+allFinal [] = true
+allFinal (v ∷ vs) = isFinal (v .fate) && allFinal vs
 
 unfoldable pub endOf : State → End
-endOf s = cond (ended s) (cond (allLeft (s .workers)) finished stuck) underWay
+endOf s = cond (ended s) (cond (allFinal (s .workers)) finished stuck) underWay
 
 -- "end (0 going, 1 finished, 2 stuck)"
 abbrev pub endNumber : End → ℕ
 endNumber e = elim e [ underWay ↦ 0 | finished ↦ 1 | stuck ↦ 2 ]
 
--- "eight fates: 0 going, 1 exited, 2 failed, 3 on a condition, 4 at a barrier, 255 no such worker"
+-- "eight fates: 0 going, 1 exited, 2 failed, 3 on a condition, 4 at a barrier, 255 no such worker"; One: "A sleeper has fate 5"
 abbrev pub fateNumber : Fate → ℕ
 fateNumber going = 0
 fateNumber exited = 1
 fateNumber failed = 2
 fateNumber (waiting (onCondition c)) = 3
 fateNumber (waiting (atBarrier b)) = 4
+fateNumber asleep = 5
 
 abbrev pub noWorker : ℕ
 noWorker = 255

@@ -1,13 +1,13 @@
--- Document 01, "Rounds": the state of a run, and the rule of each synchronising step.
+-- Document 01, "Rounds", and document 02, One: the state of a run, and the rule of each synchronising step.
 use Prim.Native.Nat.{ℕ, _+_, _-_}
 use mathlib.Core.Bool.{Bool, true, false, cond, not, _||_}
 use mathlib.Core.List.{List, [], _∷_, _++_}
 use lib.Dec.{ltb, eqb}
 use lib.ListN.{length, getD, set}
-use Rattle.protocol.specs.Ops.{opLock, opUnlock, opWait, opSignal, opBroadcast, opBarrier, opExit}
-use Rattle.protocol.specs.Format.{Own, Sync, lock, unlock, wait, signal, broadcast, barrier, exit, Plan}
+use Rattle.protocol.specs.Ops.{opLock, opUnlock, opWait, opSignal, opBroadcast, opBarrier, opExit, opStart}
+use Rattle.protocol.specs.Format.{Own, Sync, lock, unlock, wait, signal, broadcast, barrier, startWorker, exit, Plan}
 use Rattle.protocol.specs.Pages.{Copies, noCopies, commit}
-use Rattle.protocol.specs.Steps.{QueueName, onCondition, atBarrier, Fate, going, exited, failed, waiting, Worker, workerOf, newWorker, fateAs, arrivedAs, ownStep}
+use Rattle.protocol.specs.Steps.{QueueName, onCondition, atBarrier, Fate, going, exited, failed, asleep, waiting, Worker, workerOf, newWorker, fateAs, arrivedAs, ownStep}
 
 -- A record of the log: "round, worker, op, number, outcome".
 pub record Entry : Type 0 where
@@ -62,7 +62,7 @@ sameQueue (atBarrier c) (onCondition d) = false
 sameQueue (atBarrier c) (atBarrier d) = eqb c d
 
 abbrev pub waitsOn : QueueName → Fate → Bool
-waitsOn q f = elim f [ going ↦ false | exited ↦ false | failed ↦ false | waiting p ↦ sameQueue q p ]
+waitsOn q f = elim f [ going ↦ false | exited ↦ false | failed ↦ false | asleep ↦ false | waiting p ↦ sameQueue q p ]
 
 unfoldable pub keep : (ℕ → Bool) → List ℕ → List ℕ
 keep t [] = []
@@ -70,6 +70,9 @@ keep t (w ∷ ws) = cond (t w) (w ∷ keep t ws) (keep t ws)
 
 unfoldable pub queueOf : State → QueueName → List ℕ
 queueOf s q = keep (λ w. waitsOn q (workerAt s w .fate)) (s .waiting)
+
+abbrev pub fateIn : State → ℕ → Fate
+fateIn s w = workerAt s w .fate
 
 -- A rule is data: what becomes of the holder's copies, where the holder goes, and whom the step moves.
 pub data Uncommitted : Type 0 where
@@ -93,9 +96,16 @@ pub record Ruling : Type 0 where
 abbrev pub ruling : Uncommitted → ℕ → Goes → List ℕ → List ℕ → ℕ → Ruling
 ruling b h g ws js o = record { bytes = b; held = h; goes = g; wakes = ws; joins = js; outcome = o }
 
--- Outcomes that name neither a worker nor a count: "barrier, 0 if it queued", "a failure 254", "the woken worker or 255 ..; wait and exit 255".
+-- Outcomes that name neither a worker nor a count: "barrier, 0 if it queued", "a failure 254", "the woken worker or 255 ..; wait and exit
+-- 255"; One: "1, or 253 if the worker wasn't asleep".
 abbrev pub outcomeQueued : ℕ
 outcomeQueued = 0
+
+abbrev pub outcomeStarted : ℕ
+outcomeStarted = 1
+
+abbrev pub outcomeAwake : ℕ
+outcomeAwake = 253
 
 abbrev pub outcomeFailed : ℕ
 outcomeFailed = 254
@@ -147,20 +157,30 @@ barrierRule b size queued held =
 abbrev pub exitRule : ℕ → Ruling
 exitRule held = cond (not (eqb held 0)) (failure held) (ruling committed held (leaves exited) [] [] outcomeNone)
 
-unfoldable pub ruleOf : Plan → (QueueName → List ℕ) → ℕ → Sync → Ruling
-ruleOf plan queue held (lock k) = lockRule held
-ruleOf plan queue held (unlock k) = unlockRule held
-ruleOf plan queue held (wait c) = waitRule c held
-ruleOf plan queue held (signal c) = signalRule (queue (onCondition c)) held
-ruleOf plan queue held (broadcast c) = signalRule (queue (onCondition c)) held
-ruleOf plan queue held (barrier b) = barrierRule b (getD (plan .sizes) b 0) (queue (atBarrier b)) held
-ruleOf plan queue held exit = exitRule held
+-- One: "The caller commits, the sleeper joins the tail of the next round's list, and the caller keeps the token until it gives it up by
+-- another step". "Outcome: 1, or 253 if the worker wasn't asleep; then the caller still commits and keeps the token, and nobody joins a list."
+abbrev pub isAsleep : Fate → Bool
+isAsleep f = elim f [ going ↦ false | exited ↦ false | failed ↦ false | asleep ↦ true | waiting q ↦ false ]
+
+abbrev pub startRule : ℕ → Fate → ℕ → Ruling
+startRule w f held = cond (isAsleep f) (ruling committed held keeps [] (w ∷ []) outcomeStarted) (ruling committed held keeps [] [] outcomeAwake)
+
+-- a step's rule, by who waits where and who has which fate
+unfoldable pub ruleOf : Plan → (QueueName → List ℕ) → (ℕ → Fate) → ℕ → Sync → Ruling
+ruleOf plan queue fates held (lock k) = lockRule held
+ruleOf plan queue fates held (unlock k) = unlockRule held
+ruleOf plan queue fates held (wait c) = waitRule c held
+ruleOf plan queue fates held (signal c) = signalRule (queue (onCondition c)) held
+ruleOf plan queue fates held (broadcast c) = signalRule (queue (onCondition c)) held
+ruleOf plan queue fates held (barrier b) = barrierRule b (getD (plan .sizes) b 0) (queue (atBarrier b)) held
+ruleOf plan queue fates held (startWorker w) = startRule w (fates w) held
+ruleOf plan queue fates held exit = exitRule held
 
 abbrev pub opOf : Sync → ℕ
-opOf y = elim y [ lock k ↦ opLock | unlock k ↦ opUnlock | wait c ↦ opWait | signal c ↦ opSignal | broadcast c ↦ opBroadcast | barrier b ↦ opBarrier | exit ↦ opExit ]
+opOf y = elim y [ lock k ↦ opLock | unlock k ↦ opUnlock | wait c ↦ opWait | signal c ↦ opSignal | broadcast c ↦ opBroadcast | barrier b ↦ opBarrier | startWorker w ↦ opStart | exit ↦ opExit ]
 
 abbrev pub operandOf : Sync → ℕ
-operandOf y = elim y [ lock k ↦ k | unlock k ↦ k | wait c ↦ c | signal c ↦ c | broadcast c ↦ c | barrier b ↦ b | exit ↦ 0 ]
+operandOf y = elim y [ lock k ↦ k | unlock k ↦ k | wait c ↦ c | signal c ↦ c | broadcast c ↦ c | barrier b ↦ b | startWorker w ↦ w | exit ↦ 0 ]
 
 -- The holder after its step. A commit drops its copies, and so does a failure.
 abbrev pub memoryAfter : Uncommitted → Copies → List ℕ → List ℕ
@@ -178,7 +198,7 @@ abbrev pub isCondition : QueueName → Bool
 isCondition q = elim q [ onCondition c ↦ true | atBarrier b ↦ false ]
 
 abbrev pub hasArrived : Fate → Bool
-hasArrived f = elim f [ going ↦ false | exited ↦ false | failed ↦ false | waiting q ↦ isCondition q ]
+hasArrived f = elim f [ going ↦ false | exited ↦ false | failed ↦ false | asleep ↦ false | waiting q ↦ isCondition q ]
 
 abbrev pub arrivedAfter : Goes → Bool
 arrivedAfter g = elim g [ keeps ↦ true | gives ↦ false | leaves f ↦ hasArrived f ]
@@ -196,7 +216,7 @@ abbrev pub joinsNext : Goes → ℕ → List ℕ
 joinsNext g h = elim g [ keeps ↦ [] | gives ↦ h ∷ [] | leaves f ↦ [] ]
 
 abbrev pub isWaiting : Fate → Bool
-isWaiting f = elim f [ going ↦ false | exited ↦ false | failed ↦ false | waiting q ↦ true ]
+isWaiting f = elim f [ going ↦ false | exited ↦ false | failed ↦ false | asleep ↦ false | waiting q ↦ true ]
 
 abbrev pub joinsWaiting : Goes → ℕ → List ℕ
 joinsWaiting g h = elim g [ keeps ↦ [] | gives ↦ [] | leaves f ↦ cond (isWaiting f) (h ∷ []) [] ]
@@ -208,7 +228,7 @@ member w (v ∷ vs) = eqb w v || member w vs
 abbrev pub without : List ℕ → List ℕ → List ℕ
 without out ws = keep (λ w. not (member w out)) ws
 
--- those who wait no more
+-- those who wait or sleep no more
 unfoldable pub freed : List ℕ → List Worker → List Worker
 freed [] workers = workers
 freed (w ∷ ws) workers = freed ws (set workers w (fateAs going (getD workers w newWorker)))
@@ -232,7 +252,7 @@ apply y r h rest s =
 
 -- The holder's synchronising step, by its rule.
 abbrev pub syncMove : Plan → Sync → ℕ → List ℕ → State → State
-syncMove plan y h rest s = apply y (ruleOf plan (queueOf s) (workerAt s h .held) y) h rest s
+syncMove plan y h rest s = apply y (ruleOf plan (queueOf s) (fateIn s) (workerAt s h .held) y) h rest s
 
 -- "When the list is empty the next list begins the next round."
 unfoldable pub newRound : State → State

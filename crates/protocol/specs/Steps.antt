@@ -11,8 +11,9 @@ use Rattle.protocol.specs.Pages.{Copies, noCopies, loadWord, storeWord}
 pub data QueueName : Type 0 where
   onCondition atBarrier : ℕ → QueueName
 
+-- One: "A sleeper has fate 5 and is in no list."
 pub data Fate : Type 0 where
-  going exited failed : Fate
+  going exited failed asleep : Fate
   waiting : QueueName → Fate
 
 -- "each worker's place, registers, count, copies and fate", and whether it has arrived at the fence of its round

@@ -1,23 +1,34 @@
--- Document 01, "Turns": who can move, what one move does, and a list of turns.
+-- Document 01, "Turns", and document 02, One: who can move, what one move does, and a list of turns.
 use Prim.Native.Nat.{ℕ, _+_}
 use mathlib.Core.Bool.{Bool, true, false, cond, not, _&&_, _||_}
-use mathlib.Core.List.{List, [], _∷_}
+use mathlib.Core.List.{List, [], _∷_, map}
 use lib.Dec.{eqb}
-use lib.ListN.{length, replicate}
+use lib.ListN.{length}
 use Rattle.protocol.specs.Format.{Step, own, sync, Plan, upTo}
-use Rattle.protocol.specs.Steps.{newWorker, stepAt}
-use Rattle.protocol.specs.Rounds.{State, workerAt, ownMove, arrival, syncMove, newRound, member}
+use Rattle.protocol.specs.Steps.{Fate, going, asleep, Worker, newWorker, fateAs, stepAt}
+use Rattle.protocol.specs.Rounds.{State, workerAt, keep, ownMove, arrival, syncMove, newRound, member}
 
 abbrev pub workersOf : Plan → ℕ
 workersOf plan = length (plan .steps)
 
--- "The first turn finds the start of round 1, with the lent memory as shared memory." "Round 1 has the list 0, 1, .. n−1."
+-- One: "A sleeper has fate 5 and is in no list."
+abbrev pub sleeps : Plan → ℕ → Bool
+sleeps plan w = member w (plan .sleepers)
+
+abbrev pub firstFate : Bool → Fate
+firstFate true = asleep
+firstFate false = going
+
+abbrev pub firstWorker : Plan → ℕ → Worker
+firstWorker plan w = fateAs (firstFate (sleeps plan w)) newWorker
+
+-- "The first turn finds the start of round 1, with the lent memory as shared memory." "Round 1 has the list 0, 1, .. n−1", the sleepers left out.
 unfoldable pub start : Plan → List ℕ → State
 start plan memory =
     record {
       memory = memory;
-      workers = replicate (workersOf plan) newWorker;
-      list = upTo (workersOf plan);
+      workers = map (λ w. firstWorker plan w) (upTo (workersOf plan));
+      list = keep (λ w. not (sleeps plan w)) (upTo (workersOf plan));
       next = [];
       waiting = [];
       log = [];

@@ -1,4 +1,4 @@
--- Document 01, "Plan file" and "Calls and buffers", as a description: what a well-formed file is, and what a run accepts. It speaks of no
+-- Document 01, "Plan file" and "Calls and buffers", and document 02, One, as a description: what a well-formed file is, and what a run accepts. It speaks of no
 -- test and of no order of tests.
 use Prim.Native.Nat.{ℕ, suc, _*_, _<_, _≤_}
 use mathlib.Core.Bool.{true}
@@ -7,8 +7,8 @@ use mathlib.Core.Logic.{_⊎_}
 use mathlib.Core.List.{List}
 use mathlib.Core.Option.{some}
 use lib.ListN.{length, getD, take, drop}
-use Rattle.protocol.specs.Ops.{opPlanRecord, opBarrierRecord, opBarrier}
-use Rattle.protocol.specs.Format.{Record, Row, recordLength, fileLimit, planMark, recordCount, records, planOf, rowOf, isBarrier, isStep, isSkip, workersIn, stepsIn, workersLimit}
+use Rattle.protocol.specs.Ops.{opPlanRecord, opBarrierRecord, opSleepRecord, opBarrier, opStart}
+use Rattle.protocol.specs.Format.{Record, Row, recordLength, fileLimit, planMark, recordCount, records, planOf, rowOf, isBarrier, isSleep, isStep, isSkip, workersIn, stepsIn, workersLimit}
 use Rattle.protocol.specs.Format.{barrierCount, sizeLimit, stepsLimit}
 use Rattle.protocol.specs.Turns.{workersOf}
 use Rattle.protocol.specs.Calls.{Buffers, memoryLength, logLength, reportLength, workLength, turnsLimit}
@@ -36,6 +36,14 @@ pub record BarrierRecord (r : Record) : Type 0 where
   pub least : 1 ≤ r .number
   pub most : r .number ≤ sizeLimit
 
+-- One: "op 2, worker byte = the sleeper, register and number 0"; the sleeper is one of the n workers, and not worker 0
+pub record SleepRecord (n : ℕ) (r : Record) : Type 0 where
+  pub op : r .op ≡ opSleepRecord
+  pub least : 1 ≤ r .worker
+  pub most : r .worker < n
+  pub register : r .register ≡ 0
+  pub number : r .number ≡ 0
+
 -- a step of one of the n workers: its op has a row of the table, and register and number are in that row's ranges
 pub record StepRecord (n : ℕ) (r : Record) : Type 0 where
   pub row : Row
@@ -44,6 +52,8 @@ pub record StepRecord (n : ℕ) (r : Record) : Type 0 where
   pub register : r .register ≤ row .registers
   pub least : row .least ≤ r .number
   pub most : r .number ≤ row .most
+  -- One: "a worker below n as number"
+  pub target : r .op ≡ opStart → r .number < n
 
 -- how many steps of its own worker stand before a record, which has the index i among rs, and how many behind it
 abbrev pub stepsBefore : List Record → ℕ → Record → ℕ
@@ -55,14 +65,24 @@ stepsBehind rs i r = length (stepsIn (drop (suc i) rs) (r .worker))
 pub record FormedRecords (rs : List Record) : Type 0 where
   pub marked : (i : ℕ) → i < length rs → recordAt rs i .mark ≡ planMark
   pub first : PlanRecord (recordAt rs 0)
-  -- barrier records and steps
-  pub later : (i : ℕ) → 1 ≤ i → i < length rs → BarrierRecord (recordAt rs i) ⊎ StepRecord (workersIn rs) (recordAt rs i)
+  -- barrier records, sleep records and steps
+  pub later :
+      (i : ℕ) → 1 ≤ i → i < length rs
+      → BarrierRecord (recordAt rs i) ⊎ (SleepRecord (workersIn rs) (recordAt rs i) ⊎ StepRecord (workersIn rs) (recordAt rs i))
   -- "Then at most one record per barrier, ascending"
   pub ascending :
       (i j : ℕ) → i < j → j < length rs → isBarrier (recordAt rs i) ≡ true → isBarrier (recordAt rs j) ≡ true
       → recordAt rs i .register < recordAt rs j .register
-  -- "Then the steps": no barrier record stands behind one
-  pub stepsLast : (i j : ℕ) → i < j → j < length rs → isStep (recordAt rs i) ≡ true → isBarrier (recordAt rs j) ≡ true → ⊥
+  -- One: "at most one per worker, ascending"
+  pub sleepersAscend :
+      (i j : ℕ) → i < j → j < length rs → isSleep (recordAt rs i) ≡ true → isSleep (recordAt rs j) ≡ true
+      → recordAt rs i .worker < recordAt rs j .worker
+  -- One: "After the barrier records a plan may hold sleep records": no barrier record stands behind one
+  pub barriersFirst : (i j : ℕ) → i < j → j < length rs → isSleep (recordAt rs i) ≡ true → isBarrier (recordAt rs j) ≡ true → ⊥
+  -- "Then the steps": neither a barrier record nor a sleep record stands behind one
+  pub stepsLast :
+      (i j : ℕ) → i < j → j < length rs → isStep (recordAt rs i) ≡ true
+      → (isBarrier (recordAt rs j) ≡ true) ⊎ (isSleep (recordAt rs j) ≡ true) → ⊥
   -- "worker bytes never falling"
   pub rising :
       (i j : ℕ) → i < j → j < length rs → isStep (recordAt rs i) ≡ true → isStep (recordAt rs j) ≡ true
@@ -77,7 +97,7 @@ pub record FormedRecords (rs : List Record) : Type 0 where
   pub skips : (i : ℕ) → i < length rs → isSkip (recordAt rs i .op) ≡ true → recordAt rs i .number ≤ stepsBehind rs i (recordAt rs i)
 
 pub record WellFormed (file : List ℕ) : Type 0 where
-  -- "Records of 7 bytes", at least one, and at most 7,231 bytes in all
+  -- "Records of 7 bytes", at least one, and at most 7,280 bytes in all
   pub whole : length file ≡ recordLength * recordCount file
   pub some : 1 ≤ recordCount file
   pub most : length file ≤ fileLimit

@@ -6,3 +6,5 @@ pub mod Laws
 pub mod Scan
 -- A walk, which takes workers off a queue and sets an entry for each.
 pub mod Walk
+-- Picking, which puts those of the workers from 0 on that pass a test on a queue.
+pub mod Picked

@@ -96,15 +96,17 @@ impl Queue {
         Queue::one(w).append(self)
     }
 
-    // Workers 0 to n - 1.
-    pub fn up_to(n: u64) -> Queue
+    // Those of workers 0 to n - 1 whose entry is the key.
+    pub fn among(n: u64, entries: &[u64; WORKERS_LIMIT], entry: u64) -> Queue
         requires { ⌜ n ≤ workersLimit ⌝ }
-        ensures { λ r. ⌜ Holds r (upTo n) ⌝ }
+        ensures { λ r. ⌜ Holds r (keep (λ w. eqb (getD (now (entries .entry)) w 0) entry) (upTo n)) ⌝ }
     {
         let mut q = Queue::empty();
         let mut i: u64 = 0;
         while i < n {
-            q = q.push(i);
+            if entries[i as usize] == entry {
+                q = q.push(i);
+            }
             i += 1;
         }
         q

@@ -1,4 +1,4 @@
--- The laws of the codes. Callers want `fate-code`, `code-same`, `step-sync`, `op-sync` and `operand-sync`.
+-- The laws of the codes. Callers want `fate-code`, `code-same`, `code-asleep`, `step-sync`, `op-sync` and `operand-sync`.
 -- Assumes nothing.
 use Prim.Native.Nat.{ℕ, _+_, _*_, _-_, _/_, _%_, _≤_, _<_}
 use native.Mathlib.Omega.{arith}
@@ -7,12 +7,12 @@ use mathlib.Core.Bool.{Bool, true, false, cond, not}
 use mathlib.Core.Option.{none, some}
 use mathlib.Core.Path.{_≡_, refl}
 use lib.Dec.{ltb, eqb}
-use Rattle.protocol.specs.Ops.{opLock, opExit}
+use Rattle.protocol.specs.Ops.{opLock, opStart}
 use Rattle.protocol.specs.Format.{Record, rowIn, rowOf, stepOf, sync, exit}
-use Rattle.protocol.specs.Steps.{QueueName, onCondition, atBarrier, Fate, going, exited, failed, waiting}
-use Rattle.protocol.specs.Rounds.{waitsOn, isWaiting, opOf, operandOf}
+use Rattle.protocol.specs.Steps.{QueueName, onCondition, atBarrier, Fate, going, exited, failed, asleep, waiting}
+use Rattle.protocol.specs.Rounds.{waitsOn, isWaiting, isAsleep, opOf, operandOf}
 use Rattle.protocol.proofs.Each.{each}
-use Rattle.format.specs.Fates.{codeOnCondition}
+use Rattle.format.specs.Fates.{codeAsleep, codeOnCondition}
 use Rattle.rules.specs.Codes.{fateCode, fateOf, syncOf}
 
 pub fate-code : (f : Fate) → fateOf (fateCode f) ≡ f
@@ -20,6 +20,7 @@ unfolding fateOf
 fate-code going = refl
 fate-code exited = refl
 fate-code failed = refl
+fate-code asleep = refl
 fate-code (waiting (onCondition c)) =
     let half : (4 + 2 * c - 4) / 2 ≡ c = omega arith in
     rw (le-ltb (4 + 2 * c) codeOnCondition (omega arith), eq-eqb ((4 + 2 * c) % 2) 0 (omega arith), half)
@@ -40,35 +41,46 @@ pub code-same : (f : Fate) (q : QueueName) → eqb (fateCode f) (fateCode (waiti
 code-same going q = not-waiting 0 (omega arith) q
 code-same exited q = not-waiting 1 (omega arith) q
 code-same failed q = not-waiting 2 (omega arith) q
+code-same asleep q = not-waiting 3 (omega arith) q
 code-same (waiting (onCondition d)) (onCondition c) = twice 4 c d (eqb c d) refl
 code-same (waiting (onCondition d)) (atBarrier c) = ne-eqb (4 + 2 * d) (5 + 2 * c) (λ e. omega arith)
 code-same (waiting (atBarrier d)) (onCondition c) = ne-eqb (5 + 2 * d) (4 + 2 * c) (λ e. omega arith)
 code-same (waiting (atBarrier d)) (atBarrier c) = twice 5 c d (eqb c d) refl
 
+pub code-asleep : (f : Fate) → eqb (fateCode f) codeAsleep ≡ isAsleep f
+code-asleep going = refl
+code-asleep exited = refl
+code-asleep failed = refl
+code-asleep asleep = refl
+code-asleep (waiting (onCondition c)) = ne-eqb (4 + 2 * c) 3 (λ e. omega arith)
+code-asleep (waiting (atBarrier b)) = ne-eqb (5 + 2 * b) 3 (λ e. omega arith)
+
 -- the tests of the code
 pub code-waits : (k : ℕ) → isWaiting (fateOf k) ≡ not (ltb k codeOnCondition)
 unfolding fateOf
-code-waits k = go (ltb k codeOnCondition) (eqb k 0) (eqb k 1) _
+code-waits k = go (ltb k codeOnCondition) (eqb k 0) (eqb k 1) (eqb k 2) _
   where
-    go : (small zero one : Bool) (q : QueueName) → isWaiting (cond small (cond zero going (cond one exited failed)) (waiting q)) ≡ not small
-    go true true one q = refl
-    go true false true q = refl
-    go true false false q = refl
-    go false zero one q = refl
+    go : (small zero one two : Bool) (q : QueueName)
+        → isWaiting (cond small (cond zero going (cond one exited (cond two failed asleep))) (waiting q)) ≡ not small
+    go true true one two q = refl
+    go true false true two q = refl
+    go true false false true q = refl
+    go true false false false q = refl
+    go false zero one two q = refl
 
 -- the step of a record of the plan file
-pub step-sync : (r : Record) → opLock ≤ r .op → r .op ≤ opExit → stepOf r ≡ sync (syncOf (r .op) (r .number))
+pub step-sync : (r : Record) → opLock ≤ r .op → r .op ≤ opStart → stepOf r ≡ sync (syncOf (r .op) (r .number))
 unfolding stepOf rowIn syncOf
 step-sync r least most =
-    each (λ op. elim (rowOf op) [ none ↦ sync exit | some x ↦ x .step (r .register) (r .number) ] ≡ sync (syncOf op (r .number))) 32 6
-    refl refl refl refl refl refl refl (r .op) least most
+    each (λ op. elim (rowOf op) [ none ↦ sync exit | some x ↦ x .step (r .register) (r .number) ] ≡ sync (syncOf op (r .number))) 32 7
+    refl refl refl refl refl refl refl refl (r .op) least most
 
-pub op-sync : (op number : ℕ) → 32 ≤ op → op ≤ 38 → opOf (syncOf op number) ≡ op
+pub op-sync : (op number : ℕ) → 32 ≤ op → op ≤ 39 → opOf (syncOf op number) ≡ op
 unfolding syncOf
-op-sync op number least most = each (λ k. opOf (syncOf k number) ≡ k) 32 6 refl refl refl refl refl refl refl op least most
+op-sync op number least most = each (λ k. opOf (syncOf k number) ≡ k) 32 7 refl refl refl refl refl refl refl refl op least most
 
-pub operand-sync : (op number : ℕ) → 32 ≤ op → op ≤ 38 → (op ≡ 38 → number ≡ 0) → operandOf (syncOf op number) ≡ number
+pub operand-sync : (op number : ℕ) → 32 ≤ op → op ≤ 39 → (op ≡ 38 → number ≡ 0) → operandOf (syncOf op number) ≡ number
 unfolding syncOf
 operand-sync op number least most =
-    each (λ k. (k ≡ 38 → number ≡ 0) → operandOf (syncOf k number) ≡ number) 32 6
-    (λ e. refl) (λ e. refl) (λ e. refl) (λ e. refl) (λ e. refl) (λ e. refl) (λ e. rw (e refl)) op least most
+    each (λ k. (k ≡ 38 → number ≡ 0) → operandOf (syncOf k number) ≡ number) 32 7
+    (λ e. refl) (λ e. refl) (λ e. refl) (λ e. refl) (λ e. refl) (λ e. refl) (λ e. rw (e refl)) (λ e. refl) op least most

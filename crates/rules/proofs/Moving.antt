@@ -11,20 +11,12 @@ use lib.Dec.{eqb, ltb}
 use lib.ListN.{length, getD, take}
 use Rattle.protocol.specs.Steps.{QueueName, waiting}
 use Rattle.protocol.specs.Rounds.{State, workerAt, waitsOn, queueOf, member, keep, without}
+use Rattle.queue.proofs.Picked.{length-keep}
 use Rattle.queue.specs.declared.Queue.{Queue}
 use Rattle.queue.specs.List.{listOf, Holds, Below}
 use Rattle.rules.specs.Codes.{fateCode}
 use Rattle.rules.specs.Rules.{wokenOf, joinedOf, found, Met}
 use Rattle.rules.proofs.Codes.{code-same}
-
-pub length-keep : (t : ℕ → Bool) (ws : List ℕ) → length (keep t ws) ≤ length ws
-unfolding keep
-length-keep t [] = omega arith
-length-keep t (w ∷ ws) = go (t w) (length-keep t ws)
-  where
-    go : (b : Bool) → length (keep t ws) ≤ length ws → length (cond b (w ∷ keep t ws) (keep t ws)) ≤ length (w ∷ ws)
-    go true h = omega arith
-    go false h = omega arith
 
 pub keep-all : (ws : List ℕ) → without [] ws ≡ ws
 unfolding keep member
@@ -99,9 +91,20 @@ module _ {fates : List ℕ} {waiting : Queue} {code size : ℕ} {q : Queue} (m :
     | no l ↦ rw (m .late (omega arith)) (below-keep n _ (listOf waiting) b)
   ]
 
--- without those who pass a test: those who do not
-pub without-kept : (t : ℕ → Bool) (ws : List ℕ) → without (keep t ws) ws ≡ keep (λ w. not (t w)) ws
-without-kept t ws = keep-same (λ w. not (member w (keep t ws))) (λ w. not (t w)) ws (λ w m. rw (member-keep, m))
+-- of a list, those who pass a test are kept
+pub kept-member : (t : ℕ → Bool) (ws : List ℕ) (w : ℕ) → member w ws ≡ true → t w ≡ member w (keep t ws)
+kept-member t ws w m = sym (member-keep t ws w ∙ ap (λ (b : Bool). b && t w) m)
+
+pub found-member : (fates ws : List ℕ) (code : ℕ) {qs : List ℕ} → qs ≡ found fates ws code → (w : ℕ) → member w ws ≡ true → eqb (getD fates w 0) code ≡ member w qs
+found-member fates ws code e w m = kept-member (λ v. eqb (getD fates v 0) code) ws w m ∙ ap (λ (vs : List ℕ). member w vs) (sym e)
+
+-- with room for more
+pub and-more : {j k : ℕ} (m : ℕ) → j ≤ k → j ≤ k + m
+and-more m h = omega arith
+
+-- without some, by a test that tells them of a list
+pub without-told : (t : ℕ → Bool) (out ws : List ℕ) → ((w : ℕ) → member w ws ≡ true → t w ≡ member w out) → without out ws ≡ keep (λ w. not (t w)) ws
+without-told t out ws told = keep-same (λ w. not (member w out)) (λ w. not (t w)) ws (λ w m. ap not (sym (told w m)))
 
 pub first-only : (ws : List ℕ) → 0 < length ws → take 1 ws ≡ getD ws 0 0 ∷ []
 first-only [] h = absurd (omega arith)

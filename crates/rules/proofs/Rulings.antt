@@ -1,31 +1,37 @@
 -- The laws of the rules: each branch of the code as the definitions have it.
 -- Assumes nothing.
-use Prim.Native.Nat.{ℕ, _+_, _-_, _≤_}
+use Prim.Native.Nat.{ℕ, _+_, _-_, _≤_, _<_}
 use native.Mathlib.Nat.{eq-or-lt-of-le}
 use native.Mathlib.Omega.{arith}
-use borrow.Author.Tests.{ne-eqb}
-use mathlib.Core.Bool.{true, false}
+use borrow.Author.Tests.{eq-eqb, ne-eqb, eqb-true}
+use mathlib.Core.Bool.{true, false, _||_, true≢false}
 use mathlib.Core.Logic.{⊎-elim}
-use mathlib.Core.Path.{_≡_, refl, sym, _∙_}
+use mathlib.Core.Path.{_≡_, refl, sym, ap, _∙_, subst⁻¹}
 use mathlib.Core.List.{List, [], _∷_}
+use lib.Dec.{eqb}
 use lib.ListN.{length, getD, take}
-use Rattle.protocol.specs.Ops.{opBarrier}
+use Rattle.protocol.specs.Ops.{opBarrier, opStart}
 use Rattle.protocol.specs.Rounds as rounds
-use Rattle.protocol.specs.Rounds.{member, committed, keeps, givesAtZero, lockRule, unlockRule, waitRule, signalRule, barrierRule, exitRule, ruleOf}
+use Rattle.protocol.specs.Rounds.{member, committed, keeps, givesAtZero, lockRule, unlockRule, waitRule, signalRule, barrierRule, startRule, exitRule, ruleOf}
+use Rattle.protocol.specs.Steps.{Fate}
 use Rattle.protocol.specs.Turns.{noneLeft}
+use Rattle.protocol.proofs.Bools.{or-false, or-fails}
+use Rattle.format.specs.Fates.{codeAsleep}
 use Rattle.queue.specs.declared.Queue.{Queue}
 use Rattle.queue.specs.List.{listOf, Good, Holds, Below}
 use Rattle.rules.specs.declared.ruling.Uncommitted.{Uncommitted}
 use Rattle.rules.specs.declared.ruling.Goes.{Goes}
 use Rattle.rules.specs.declared.ruling.Ruling.{Ruling}
-use Rattle.rules.specs.Codes.{conditionCode, barrierCode, uncommittedOf, goesOf, syncOf}
-use Rattle.rules.specs.Rules.{found, Coded, AtZero, Commits, Coherent, Means, Ruled}
+use Rattle.rules.specs.Codes.{fateCode, conditionCode, barrierCode, uncommittedOf, goesOf, syncOf}
+use Rattle.rules.specs.Rules.{found, keyOf, sleepersAt, calledBy, Coded, AtZero, Commits, Coherent, Means, Starting, Started, Ruled}
+use Rattle.rules.proofs.Codes.{code-asleep}
 
 -- a ruling that wakes nobody
-pub asleep : {held number : ℕ} {waiting : Queue} {fates : List ℕ} {r : Ruling} → r .wakes ≡ false → Coded (r .goes) → r .held ≤ held + 1
-    → Good (r .queued) → Below 8 (listOf (r .queued)) → length (listOf (r .queued)) ≤ length (listOf waiting)
-    → (r .joins ≡ true → listOf (r .queued) ≡ found fates (listOf waiting) (barrierCode number)) → Coherent held number waiting fates r
-asleep w e h good below few all =
+pub wakes-nobody : {held key called : ℕ} {waiting : Queue} {fates : List ℕ} {r : Ruling} → r .wakes ≡ false → Coded (r .goes) → r .held ≤ held + 1
+    → Good (r .queued) → Below 8 (listOf (r .queued)) → length (listOf (r .queued)) ≤ length (listOf waiting) + called
+    → (r .joins ≡ true → (w : ℕ) → member w (listOf waiting) ≡ true → eqb (getD fates w 0) key ≡ member w (listOf (r .queued)))
+    → Coherent held key called waiting fates r
+wakes-nobody w e h good below few all =
     record {
       coded = e;
       some = λ y. let z : true ≡ false = sym y ∙ w in absurd (let n : _≡_ {A = ℕ} 0 1 = cc in omega arith);
@@ -38,12 +44,12 @@ asleep w e h good below few all =
     }
 
 -- a ruling that moves nobody but the holder
-pub calm : {held number : ℕ} {waiting : Queue} {fates : List ℕ} {r : Ruling} → r .wakes ≡ false → r .joins ≡ false → Coded (r .goes) → r .held ≤ held + 1
-    → Holds (r .queued) [] → Coherent held number waiting fates r
+pub calm : {held key called : ℕ} {waiting : Queue} {fates : List ℕ} {r : Ruling} → r .wakes ≡ false → r .joins ≡ false → Coded (r .goes) → r .held ≤ held + 1
+    → Holds (r .queued) [] → Coherent held key called waiting fates r
 unfolding member
-calm {held} {number} {waiting} {fates} {r} w j e h none =
-    asleep w e h (none .good) (rw (none .list) (λ v m. absurd (let n : _≡_ {A = ℕ} 0 1 = cc in omega arith))) (rw (none .list) (omega arith))
-    (λ y. let z : true ≡ false = sym y ∙ j in cc)
+calm {held} {key} {called} {waiting} {fates} {r} w j e h none =
+    wakes-nobody w e h (none .good) (rw (none .list) (λ v m. absurd (let n : _≡_ {A = ℕ} 0 1 = cc in omega arith))) (rw (none .list) (omega arith))
+    (λ y. let z : true ≡ false = sym y ∙ j in absurd (let n : _≡_ {A = ℕ} 0 1 = cc in omega arith))
 
 -- a lock's and an unlock's ruling by the numbers in it, however the code works them out
 pub locks : (held rises outcome : ℕ) {count : ℕ} {bytes : Uncommitted} → Commits count bytes → count ≡ held → rises ≡ held + 1 → outcome ≡ held + 1
@@ -65,25 +71,51 @@ pub wakes-first :
 wakes-first [] held e = cc
 wakes-first (w ∷ ws) held e = refl
 
+-- a start, by the code of its worker's fate: of one who is not asleep, and of a sleeper
+pub starts-none : (fates : List ℕ) (target held : ℕ) (f : Fate) → getD fates target 0 ≡ fateCode f → (getD fates target 0 ≡ codeAsleep → ⊥)
+    → rounds.ruling committed held keeps [] [] 253 ≡ startRule target f held
+starts-none fates target held f e n = rw (sym (code-asleep f) ∙ ne-eqb (fateCode f) codeAsleep (λ z. n (e ∙ z)))
+
+pub starts-one : (fates : List ℕ) (target held : ℕ) {qs : List ℕ} → qs ≡ target ∷ [] → (f : Fate) → getD fates target 0 ≡ fateCode f → getD fates target 0 ≡ codeAsleep
+    → rounds.ruling committed held keeps [] qs 1 ≡ startRule target f held
+starts-one fates target held q f e y = rw (q, sym (code-asleep f) ∙ eq-eqb (fateCode f) codeAsleep (sym e ∙ y))
+
+pub start-coherent : {target held : ℕ} {waiting : Queue} {fates : List ℕ} {r : Ruling} → Starting target waiting fates → Holds (r .queued) (target ∷ [])
+    → r .wakes ≡ false → r .joins ≡ true → Coded (r .goes) → r .held ≤ held + 1 → getD fates target 0 ≡ codeAsleep
+    → Coherent held codeAsleep (sleepersAt fates target) waiting fates r
+unfolding member
+start-coherent {target} {held} {waiting} {fates} {r} s one w j e h y =
+    wakes-nobody w e h (one .good)
+    (rw (one .list) (λ v m. alone v m))
+    (rw (one .list, eq-eqb (getD fates target 0) codeAsleep y) (omega arith))
+    (λ z v m. s .awake v m ∙ sym (ap (λ (vs : List ℕ). member v vs) (one .list) ∙ or-fails (eqb v target) refl ∙ other v m))
+  where
+    alone : (v : ℕ) → eqb v target || false ≡ true → v < 8
+    alone v m = let same = eqb-true v target (sym (or-false (eqb v target)) ∙ m) in let n = s .named in omega arith
+
+    -- nobody who waits is the sleeper
+    other : (v : ℕ) → member v (listOf waiting) ≡ true → eqb v target ≡ false
+    other v m = ne-eqb v target (λ q. true≢false (sym (eq-eqb (getD fates v 0) codeAsleep (ap (λ (k : ℕ). getD fates k 0) q ∙ y)) ∙ s .awake v m))
+
 -- the rule by its op
 module _ {op number held : ℕ} {sizes : List ℕ} {waiting : Queue} {fates : List ℕ} {r : Ruling} where
-  pub by-lock : op ≡ 32 → Means held number waiting fates r (lockRule held) → Ruled op number held sizes waiting fates r
+  pub by-lock : op ≡ 32 → Means held (keyOf op number) (calledBy op number fates) waiting fates r (lockRule held) → Ruled op number held sizes waiting fates r
   unfolding syncOf ruleOf
-  by-lock e m = record { same = λ plan queue met at fit. rw e (m .same); sound = m .sound }
+  by-lock e m = record { same = λ plan queue fate met at fit named. rw e (m .same); sound = m .sound }
 
-  pub by-unlock : op ≡ 33 → Means held number waiting fates r (unlockRule held) → Ruled op number held sizes waiting fates r
+  pub by-unlock : op ≡ 33 → Means held (keyOf op number) (calledBy op number fates) waiting fates r (unlockRule held) → Ruled op number held sizes waiting fates r
   unfolding syncOf ruleOf
-  by-unlock e m = record { same = λ plan queue met at fit. rw e (m .same); sound = m .sound }
+  by-unlock e m = record { same = λ plan queue fate met at fit named. rw e (m .same); sound = m .sound }
 
-  pub by-wait : op ≡ 34 → Means held number waiting fates r (waitRule number held) → Ruled op number held sizes waiting fates r
+  pub by-wait : op ≡ 34 → Means held (keyOf op number) (calledBy op number fates) waiting fates r (waitRule number held) → Ruled op number held sizes waiting fates r
   unfolding syncOf ruleOf
-  by-wait e m = record { same = λ plan queue met at fit. rw e (m .same); sound = m .sound }
+  by-wait e m = record { same = λ plan queue fate met at fit named. rw e (m .same); sound = m .sound }
 
-  pub by-signal : 35 ≤ op → op ≤ 36 → Means held number waiting fates r (signalRule (found fates (listOf waiting) (conditionCode number)) held) → Ruled op number held sizes waiting fates r
+  pub by-signal : 35 ≤ op → op ≤ 36 → Means held (keyOf op number) (calledBy op number fates) waiting fates r (signalRule (found fates (listOf waiting) (conditionCode number)) held) → Ruled op number held sizes waiting fates r
   unfolding syncOf ruleOf
   by-signal low high m =
       record {
-        same = λ plan queue met at fit.
+        same = λ plan queue fate met at fit named.
             ⊎-elim (λ e. rw (← e, ← met low high) (m .same))
             (λ h. let e : op ≡ 36 = omega arith in rw (e, ← met low high) (m .same))
             (eq-or-lt-of-le low);
@@ -91,11 +123,28 @@ module _ {op number held : ℕ} {sizes : List ℕ} {waiting : Queue} {fates : Li
       }
 
   pub by-barrier : op ≡ opBarrier
-      → Means held number waiting fates r (barrierRule number (getD sizes number 0) (found fates (listOf waiting) (barrierCode number)) held)
+      → ((called : ℕ) → Means held (barrierCode number) called waiting fates r (barrierRule number (getD sizes number 0) (found fates (listOf waiting) (barrierCode number)) held))
       → Ruled op number held sizes waiting fates r
   unfolding syncOf ruleOf
-  by-barrier e m = record { same = λ plan queue met at fit. rw (e, ← at e, fit e) (m .same); sound = m .sound }
+  by-barrier e m =
+      let key : keyOf op number ≡ barrierCode number = ap (λ (o : ℕ). keyOf o number) e in
+      record {
+        same = λ plan queue fate met at fit named. rw (e, ← at e, fit e) (m 0 .same);
+        sound = subst⁻¹ (λ (k : ℕ). Coherent held k (calledBy op number fates) waiting fates r) key (m (calledBy op number fates) .sound);
+      }
 
-  pub by-exit : op ≡ 38 → Means held number waiting fates r (exitRule held) → Ruled op number held sizes waiting fates r
+  pub by-exit : op ≡ 38 → Means held (keyOf op number) (calledBy op number fates) waiting fates r (exitRule held) → Ruled op number held sizes waiting fates r
   unfolding syncOf ruleOf
-  by-exit e m = record { same = λ plan queue met at fit. rw e (m .same); sound = m .sound }
+  by-exit e m = record { same = λ plan queue fate met at fit named. rw e (m .same); sound = m .sound }
+
+  pub by-start : op ≡ opStart → Started number held waiting fates r → Ruled op number held sizes waiting fates r
+  unfolding syncOf ruleOf
+  by-start e m =
+      let key : keyOf op number ≡ codeAsleep = ap (λ (o : ℕ). keyOf o number) e in
+      let called : calledBy op number fates ≡ sleepersAt fates number = ap (λ (o : ℕ). calledBy o number fates) e in
+      record {
+        same = λ plan queue fate met at fit named. rw e (m .same (fate number) (named e));
+        sound =
+            subst⁻¹ (λ (k : ℕ). Coherent held k (calledBy op number fates) waiting fates r) key
+            (subst⁻¹ (λ (k : ℕ). Coherent held codeAsleep k waiting fates r) called (m .sound));
+      }

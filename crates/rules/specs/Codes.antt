@@ -2,11 +2,11 @@
 use Prim.Native.Nat.{ℕ, _+_, _*_, _-_, _/_, _%_}
 use mathlib.Core.Bool.{cond}
 use lib.Dec.{ltb, eqb}
-use Rattle.protocol.specs.Ops.{opLock, opUnlock, opWait, opSignal, opBroadcast, opBarrier}
-use Rattle.protocol.specs.Format.{Sync, lock, unlock, wait, signal, broadcast, barrier, exit}
-use Rattle.protocol.specs.Steps.{onCondition, atBarrier, Fate, going, exited, failed, waiting}
+use Rattle.protocol.specs.Ops.{opLock, opUnlock, opWait, opSignal, opBroadcast, opBarrier, opStart}
+use Rattle.protocol.specs.Format.{Sync, lock, unlock, wait, signal, broadcast, barrier, startWorker, exit}
+use Rattle.protocol.specs.Steps.{onCondition, atBarrier, Fate, going, exited, failed, asleep, waiting}
 use Rattle.protocol.specs.Rounds as rounds
-use Rattle.format.specs.Fates.{codeOnCondition, codeAtBarrier}
+use Rattle.format.specs.Fates.{codeAsleep, codeOnCondition, codeAtBarrier}
 use Rattle.rules.specs.declared.ruling.Uncommitted.{Uncommitted}
 use Rattle.rules.specs.declared.ruling.Uncommitted.the-variants.{Kept, Committed, Lost}
 use Rattle.rules.specs.declared.ruling.Goes.{Goes}
@@ -17,6 +17,7 @@ abbrev pub fateCode : Fate → ℕ
 fateCode going = 0
 fateCode exited = 1
 fateCode failed = 2
+fateCode asleep = codeAsleep
 fateCode (waiting (onCondition c)) = codeOnCondition + 2 * c
 fateCode (waiting (atBarrier b)) = codeAtBarrier + 2 * b
 
@@ -29,7 +30,7 @@ barrierCode b = fateCode (waiting (atBarrier b))
 
 unfoldable pub fateOf : ℕ → Fate
 fateOf k =
-    cond (ltb k codeOnCondition) (cond (eqb k 0) going (cond (eqb k 1) exited failed))
+    cond (ltb k codeOnCondition) (cond (eqb k 0) going (cond (eqb k 1) exited (cond (eqb k 2) failed asleep)))
     (waiting (cond (eqb (k % 2) 0) (onCondition ((k - codeOnCondition) / 2)) (atBarrier ((k - codeAtBarrier) / 2))))
 
 abbrev pub uncommittedOf : Uncommitted → rounds.Uncommitted
@@ -56,4 +57,5 @@ syncOf op number =
     (cond (eqb op opWait) (wait number)
     (cond (eqb op opSignal) (signal number)
     (cond (eqb op opBroadcast) (broadcast number)
-    (cond (eqb op opBarrier) (barrier number) exit)))))
+    (cond (eqb op opBarrier) (barrier number)
+    (cond (eqb op opStart) (startWorker number) exit))))))

@@ -5,11 +5,12 @@ use mathlib.Core.Path.{_≡_}
 use mathlib.Core.List.{List, []}
 use lib.Dec.{eqb}
 use lib.ListN.{length, getD, take}
-use Rattle.protocol.specs.Ops.{opLock, opSignal, opBroadcast, opBarrier, opExit}
+use Rattle.protocol.specs.Ops.{opLock, opSignal, opBroadcast, opBarrier, opStart}
 use Rattle.protocol.specs.Format.{workersLimit, barrierCount, stepsLimit, lockLimit, Plan}
-use Rattle.protocol.specs.Steps.{QueueName, onCondition, atBarrier}
+use Rattle.protocol.specs.Steps.{QueueName, onCondition, atBarrier, Fate}
 use Rattle.protocol.specs.Rounds as rounds
-use Rattle.protocol.specs.Rounds.{keep, fateAfter, commitsAtZero, givesAtZero, ruleOf}
+use Rattle.protocol.specs.Rounds.{keep, member, fateAfter, commitsAtZero, givesAtZero, startRule, ruleOf}
+use Rattle.format.specs.Fates.{codeAsleep}
 use Rattle.queue.specs.declared.Queue.{Queue}
 use Rattle.queue.specs.List.{listOf, Good, Below}
 use Rattle.rules.specs.declared.ruling.Uncommitted.{Uncommitted}
@@ -46,21 +47,38 @@ pub record AtZero (held : ℕ) (goes : Goes) : Type 0 where
 pub record Commits (held : ℕ) (bytes : Uncommitted) : Type 0 where
   pub same : uncommittedOf bytes ≡ commitsAtZero held
 
--- what holds of every ruling, by a holder of so many locks at a step with this number, where these wait
-pub record Coherent (held number : ℕ) (waiting : Queue) (fates : List ℕ) (r : Ruling) : Type 0 where
+-- the code of the fates of those whom a step may send to the next list: for a start that of sleepers, else that of those at its barrier
+abbrev pub keyOf : ℕ → ℕ → ℕ
+keyOf op number = cond (eqb op opStart) codeAsleep (barrierCode number)
+
+-- how many sleepers a step starts: one, if it is a start and its worker sleeps
+abbrev pub sleepersAt : List ℕ → ℕ → ℕ
+sleepersAt fates w = cond (eqb (getD fates w 0) codeAsleep) 1 0
+
+abbrev pub calledBy : ℕ → ℕ → List ℕ → ℕ
+calledBy op number fates = cond (eqb op opStart) (sleepersAt fates number) 0
+
+-- what holds of every ruling, by a holder of so many locks at a step with this key that starts so many sleepers, where these wait
+pub record Coherent (held key called : ℕ) (waiting : Queue) (fates : List ℕ) (r : Ruling) : Type 0 where
   pub coded : Coded (r .goes)
   pub some : r .wakes ≡ true → 0 < length (listOf (r .queued))
   pub apart : r .wakes ≡ true → r .joins ≡ false
   pub rises : r .held ≤ held + 1
   pub good : Good (r .queued)
   pub below : Below workersLimit (listOf (r .queued))
-  pub few : length (listOf (r .queued)) ≤ length (listOf waiting)
-  pub all : r .joins ≡ true → listOf (r .queued) ≡ found fates (listOf waiting) (barrierCode number)
+  pub few : length (listOf (r .queued)) ≤ length (listOf waiting) + called
+  -- of those who wait, those with the key join the next list
+  pub all : r .joins ≡ true → (w : ℕ) → member w (listOf waiting) ≡ true → eqb (getD fates w 0) key ≡ member w (listOf (r .queued))
 
 -- a ruling of the code is that of the definitions
-pub record Means (held number : ℕ) (waiting : Queue) (fates : List ℕ) (r : Ruling) (is : rounds.Ruling) : Type 0 where
+pub record Means (held key called : ℕ) (waiting : Queue) (fates : List ℕ) (r : Ruling) (is : rounds.Ruling) : Type 0 where
   pub same : rulingOf r ≡ is
-  pub sound : Coherent held number waiting fates r
+  pub sound : Coherent held key called waiting fates r
+
+-- a ruling of the code is that of a start of this worker, whatever fate it is that its code shows
+pub record Started (target held : ℕ) (waiting : Queue) (fates : List ℕ) (r : Ruling) : Type 0 where
+  pub same : (f : Fate) → getD fates target 0 ≡ fateCode f → rulingOf r ≡ startRule target f held
+  pub sound : Coherent held codeAsleep (sleepersAt fates target) waiting fates r
 
 -- those who wait with this code as their fate, asked for by a barrier of this size: nobody, where all who wait are too few for it
 pub record Met (fates : List ℕ) (waiting : Queue) (code size : ℕ) (q : Queue) : Type 0 where
@@ -68,22 +86,31 @@ pub record Met (fates : List ℕ) (waiting : Queue) (code size : ℕ) (q : Queue
   pub early : length (listOf waiting) + 1 < size → listOf q ≡ []
   pub late : size ≤ length (listOf waiting) + 1 → listOf q ≡ found fates (listOf waiting) code
 
+-- a start of this worker, where nobody who waits sleeps
+pub record Starting (target : ℕ) (waiting : Queue) (fates : List ℕ) : Type 0 where
+  pub named : target < workersLimit
+  pub awake : (w : ℕ) → member w (listOf waiting) ≡ true → eqb (getD fates w 0) codeAsleep ≡ false
+
 -- what a ruling is asked for: of all numbers that a synchronising step may have a lock's are the greatest
-pub record Asking (op number held : ℕ) (waiting : Queue) : Type 0 where
+pub record Asking (op number held : ℕ) (waiting : Queue) (fates : List ℕ) : Type 0 where
   pub least : opLock ≤ op
-  pub most : op ≤ opExit
+  pub most : op ≤ opStart
   pub operand : number ≤ lockLimit
   pub barrier : op ≡ opBarrier → number < barrierCount
+  pub target : op ≡ opStart → number < workersLimit
   pub count : held ≤ stepsLimit
   pub good : Good waiting
   pub below : Below workersLimit (listOf waiting)
+  -- nobody who waits sleeps
+  pub awake : (w : ℕ) → member w (listOf waiting) ≡ true → eqb (getD fates w 0) codeAsleep ≡ false
 
--- the rule of the definitions, in every plan with these sizes and every state with these queues
+-- the rule of the definitions, in every plan with these sizes and every state with these queues and fates
 pub record Ruled (op number held : ℕ) (sizes : List ℕ) (waiting : Queue) (fates : List ℕ) (r : Ruling) : Type 0 where
   pub same :
-      (plan : Plan) (queue : QueueName → List ℕ)
+      (plan : Plan) (queue : QueueName → List ℕ) (fate : ℕ → Fate)
       → (opSignal ≤ op → op ≤ opBroadcast → found fates (listOf waiting) (conditionCode number) ≡ queue (onCondition number))
       → (op ≡ opBarrier → found fates (listOf waiting) (barrierCode number) ≡ queue (atBarrier number))
       → (op ≡ opBarrier → getD (plan .sizes) number 0 ≡ getD sizes number 0)
-      → rulingOf r ≡ ruleOf plan queue held (syncOf op number)
-  pub sound : Coherent held number waiting fates r
+      → (op ≡ opStart → getD fates number 0 ≡ fateCode (fate number))
+      → rulingOf r ≡ ruleOf plan queue fate held (syncOf op number)
+  pub sound : Coherent held (keyOf op number) (calledBy op number fates) waiting fates r

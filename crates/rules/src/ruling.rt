@@ -1,4 +1,5 @@
 // The rule of each synchronising step.
+use format::fates::ASLEEP;
 use format::fates::AT_BARRIER;
 use format::fates::EXITED;
 use format::fates::FAILED;
@@ -8,16 +9,21 @@ use format::limits::WORKERS_LIMIT;
 use format::ops;
 use queue::Queue;
 ghost use mathlib.Core.List.{List};
+ghost use mathlib.Core.Path.{_≡_};
 ghost use Prim.Native.Nat.{ℕ, _≤_};
 ghost use Rattle.protocol.specs.Format.{workersLimit, stepsLimit, lockLimit};
 ghost use Rattle.protocol.specs.Rounds.{failure, lockRule, unlockRule, waitRule, signalRule, barrierRule, exitRule};
 ghost use Rattle.queue.specs.List.{listOf, Good, Below};
 ghost use Rattle.queue.specs.declared.Queue.{Queue};
 ghost use Rattle.rules.specs.Codes.{conditionCode, barrierCode};
-ghost use Rattle.rules.specs.Rules.{found, AtZero, Commits, Met, Asking, Means, Ruled};
+ghost use Rattle.rules.specs.Rules.{found, keyOf, AtZero, Commits, Met, Starting, Started, Asking, Means, Ruled};
 
 // Outcomes that name neither a worker nor a count.
 pub const OUTCOME_QUEUED: u8 = 0;
+
+pub const OUTCOME_STARTED: u8 = 1;
+
+pub const OUTCOME_AWAKE: u8 = 253;
 
 pub const OUTCOME_FAILED: u8 = 254;
 
@@ -37,7 +43,7 @@ pub enum Goes {
     Leaves(u64),
 }
 
-// queued: those who wait where the step says, if its rule asks for them. wakes: the first of them is woken; joins: all of them
+// queued: those who wait where the step says, if its rule asks for them, or the sleeper that it starts. wakes: the first of them is woken; joins: all of them
 // join the next list.
 pub struct Ruling {
     pub bytes: Uncommitted,
@@ -50,7 +56,7 @@ pub struct Ruling {
 }
 
 fn failed(held: u64) -> Ruling
-    ensures { λ r. ⌜ ((number : ℕ) (waiting : Queue) (fates : List ℕ) → Means held number waiting fates r (failure held)) ⌝ }
+    ensures { λ r. ⌜ ((key called : ℕ) (waiting : Queue) (fates : List ℕ) → Means held key called waiting fates r (failure held)) ⌝ }
 {
     let none = Queue::empty();
     Ruling {
@@ -82,7 +88,7 @@ fn commits_at_zero(held: u64) -> Uncommitted
 
 fn lock(held: u64) -> Ruling
     requires { ⌜ held ≤ stepsLimit ⌝ }
-    ensures { λ r. ⌜ ((number : ℕ) (waiting : Queue) (fates : List ℕ) → Means held number waiting fates r (lockRule held)) ⌝ }
+    ensures { λ r. ⌜ ((key called : ℕ) (waiting : Queue) (fates : List ℕ) → Means held key called waiting fates r (lockRule held)) ⌝ }
 {
     let none = Queue::empty();
     let bytes = commits_at_zero(held);
@@ -99,7 +105,7 @@ fn lock(held: u64) -> Ruling
 
 fn unlock(held: u64) -> Ruling
     requires { ⌜ held ≤ stepsLimit ⌝ }
-    ensures { λ r. ⌜ ((number : ℕ) (waiting : Queue) (fates : List ℕ) → Means held number waiting fates r (unlockRule held)) ⌝ }
+    ensures { λ r. ⌜ ((key called : ℕ) (waiting : Queue) (fates : List ℕ) → Means held key called waiting fates r (unlockRule held)) ⌝ }
 {
     if held == 0 {
         return failed(held);
@@ -121,7 +127,7 @@ fn unlock(held: u64) -> Ruling
 
 fn wait(condition: u64, count: u64) -> Ruling
     requires { ⌜ condition ≤ lockLimit ⌝ }
-    ensures { λ r. ⌜ ((number : ℕ) (waiting : Queue) (fates : List ℕ) → Means count number waiting fates r (waitRule condition count)) ⌝ }
+    ensures { λ r. ⌜ ((key called : ℕ) (waiting : Queue) (fates : List ℕ) → Means count key called waiting fates r (waitRule condition count)) ⌝ }
 {
     if count == 0 {
         return failed(count);
@@ -141,7 +147,7 @@ fn wait(condition: u64, count: u64) -> Ruling
 // Signal and broadcast.
 fn signal(condition: u64, held: u64, waiting: Queue, fates: &[u64; WORKERS_LIMIT]) -> Ruling
     requires { ⌜ (condition ≤ lockLimit) × Good waiting × Below workersLimit (listOf waiting) ⌝ }
-    ensures { λ r. ⌜ Means held condition waiting (now (fates .entry)) r (signalRule (found (now (fates .entry)) (listOf waiting) (conditionCode condition)) held) ⌝ }
+    ensures { λ r. ⌜ ((key called : ℕ) → Means held key called waiting (now (fates .entry)) r (signalRule (found (now (fates .entry)) (listOf waiting) (conditionCode condition)) held)) ⌝ }
 {
     let goes = gives_at_zero(held);
     let queued = waiting.select(fates, ON_CONDITION + 2 * condition);
@@ -180,7 +186,8 @@ fn met(b: u64, size: u8, waiting: Queue, fates: &[u64; WORKERS_LIMIT]) -> Queue
 
 fn barrier(b: u64, size: u8, held: u64, waiting: Queue, fates: &[u64; WORKERS_LIMIT]) -> Ruling
     requires { ⌜ (b ≤ lockLimit) × Good waiting × Below workersLimit (listOf waiting) ⌝ }
-    ensures { λ r. ⌜ Means held b waiting (now (fates .entry)) r (barrierRule b size (found (now (fates .entry)) (listOf waiting) (barrierCode b)) held) ⌝ }
+    ensures { λ r. ⌜ ((called : ℕ) → Means held (barrierCode b) called waiting (now (fates .entry)) r
+        (barrierRule b size (found (now (fates .entry)) (listOf waiting) (barrierCode b)) held)) ⌝ }
 {
     if held != 0 {
         return failed(held);
@@ -209,7 +216,7 @@ fn barrier(b: u64, size: u8, held: u64, waiting: Queue, fates: &[u64; WORKERS_LI
 }
 
 fn exit(held: u64) -> Ruling
-    ensures { λ r. ⌜ ((number : ℕ) (waiting : Queue) (fates : List ℕ) → Means held number waiting fates r (exitRule held)) ⌝ }
+    ensures { λ r. ⌜ ((key called : ℕ) (waiting : Queue) (fates : List ℕ) → Means held key called waiting fates r (exitRule held)) ⌝ }
 {
     if held != 0 {
         return failed(held);
@@ -226,6 +233,46 @@ fn exit(held: u64) -> Ruling
     }
 }
 
+// A start of the target, asleep or not.
+fn start(target: usize, held: u64, waiting: Queue, fates: &[u64; WORKERS_LIMIT]) -> Ruling
+    requires { ⌜ Starting target waiting (now fates) ⌝ }
+    ensures { λ r. ⌜ Started target held waiting (now (fates .entry)) r ⌝ }
+{
+    if fates[target] != ASLEEP {
+        let none = Queue::empty();
+        return Ruling {
+            bytes: Uncommitted::Committed,
+            held,
+            goes: Goes::Keeps,
+            wakes: false,
+            joins: false,
+            queued: none,
+            outcome: OUTCOME_AWAKE,
+        };
+    }
+    let sleeper = Queue::one(target as u64);
+    Ruling {
+        bytes: Uncommitted::Committed,
+        held,
+        goes: Goes::Keeps,
+        wakes: false,
+        joins: true,
+        queued: sleeper,
+        outcome: OUTCOME_STARTED,
+    }
+}
+
+// The code of the fates of those whom a step may send to the next list: sleepers, or those who wait at its barrier.
+pub fn key(op: u8, number: u16) -> u64
+    requires { ⌜ number ≤ lockLimit ⌝ }
+    ensures { λ k. ⌜ k ≡ keyOf op number ⌝ }
+{
+    if op == ops::START {
+        return ASLEEP;
+    }
+    AT_BARRIER + 2 * (number as u64)
+}
+
 // The rule of the step with this op and number, where these wait, each where its fate's code in `on` says.
 pub fn rule(
     op: u8,
@@ -235,7 +282,7 @@ pub fn rule(
     waiting: Queue,
     fates: &[u64; WORKERS_LIMIT],
 ) -> Ruling
-    requires { ⌜ Asking op number held waiting ⌝ }
+    requires { ⌜ Asking op number held waiting (now fates) ⌝ }
     ensures { λ r. ⌜ Ruled op number held (now (sizes .entry)) waiting (now (fates .entry)) r ⌝ }
 {
     if op == ops::LOCK {
@@ -254,6 +301,9 @@ pub fn rule(
     }
     if op == ops::EXIT {
         return exit(held);
+    }
+    if op == ops::START {
+        return start(number as usize, held, waiting, fates);
     }
     signal(n, held, waiting, fates)
 }

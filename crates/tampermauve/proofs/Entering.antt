@@ -33,7 +33,7 @@ module _ (file turns : List ℕ) (b : Buffers) (a : Admitted) (h : Admits file t
   pub workers-right : a .layout .workers ≡ workersOf (planOf file)
   workers-right = plan-workers file (h .layout z) file-ok
 
-  pub playing : Playing file (a .layout .workers) (a .layout .sizes) (a .layout .firsts) turns (b .memory) (b .log) (b .work)
+  pub playing : Playing file (a .layout .workers) (a .layout .sizes) (a .layout .firsts) (a .layout .fates) turns (b .memory) (b .log) (b .work)
   playing =
       record {
         named =
@@ -43,6 +43,7 @@ module _ (file turns : List ℕ) (b : Buffers) (a : Admitted) (h : Admits file t
               short = ltb-false turnsLimit (length turns) (tested .short);
             };
         workers = workers-right;
+        fates = h .layout z .fates;
         bytes = record { memoryLength = buffers-fit .memory; workLength = buffers-fit .work };
         room = buffers-fit .log;
       }

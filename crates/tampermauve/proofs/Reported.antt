@@ -5,44 +5,50 @@ use mathlib.Core.Path.{_≡_, refl, sym, ap, _∙_}
 use mathlib.Core.List.{List, [], _∷_, _++_, map}
 use native.Mathlib.Omega.{arith}
 use native.Mathlib.Decide.{decLt}
-use borrow.Author.Tests.{lt-ltb, le-ltb, lt-leb, le-leb}
+use borrow.Author.Tests.{lt-ltb, le-ltb, lt-leb, le-leb, ne-eqb}
 use lib.ListN.{length, getD}
 use Rattle.protocol.specs.Format.{workersLimit, upTo}
-use Rattle.protocol.specs.Steps.{onCondition, atBarrier, Fate, going, exited, failed, waiting, Worker, newWorker}
+use Rattle.protocol.specs.Steps.{onCondition, atBarrier, Fate, going, exited, failed, asleep, waiting, Worker, newWorker}
 use Rattle.protocol.specs.Rounds.{State, workerAt}
 use Rattle.protocol.specs.Turns.{noneLeft}
-use Rattle.protocol.specs.Report.{twoBytes, underWay, finished, stuck, hasLeft, allLeft, endOf, endNumber, fateNumber, fateByte, reportBytes}
+use Rattle.protocol.specs.Report.{twoBytes, underWay, finished, stuck, isFinal, allFinal, endOf, endNumber, fateNumber, fateByte, reportBytes}
 use Rattle.rules.specs.Codes.{fateCode}
-use Rattle.format.specs.Fates.{codeExited, codeFailed, codeOnCondition}
+use Rattle.format.specs.Fates.{codeExited, codeAsleep}
 use Rattle.journal.specs.Bytes.{shownBy, shown, reportOf}
-use Rattle.ending.specs.Ending.{isGone, allGone, endBy}
+use Rattle.ending.specs.Ending.{codeFinal, allOver, endBy}
 
 shown-fate : (f : Fate) → shownBy (fateCode f) ≡ fateNumber f
 shown-fate going = refl
 shown-fate exited = refl
 shown-fate failed = refl
-shown-fate (waiting (onCondition c)) = simp (le-ltb (fateCode (waiting (onCondition c))) codeOnCondition (omega arith)) (omega arith)
-shown-fate (waiting (atBarrier b)) = simp (le-ltb (fateCode (waiting (atBarrier b))) codeOnCondition (omega arith)) (omega arith)
-
-gone-fate : (f : Fate) → isGone (fateCode f) ≡ hasLeft f
-gone-fate going = refl
-gone-fate exited = refl
-gone-fate failed = refl
-gone-fate (waiting (onCondition c)) =
+shown-fate asleep = refl
+shown-fate (waiting (onCondition c)) =
     let code = fateCode (waiting (onCondition c)) in
-    simp (le-ltb code codeExited (omega arith), lt-ltb codeFailed code (omega arith))
-gone-fate (waiting (atBarrier b)) =
+    simp (le-ltb code codeAsleep (omega arith), ne-eqb code codeAsleep (λ e. omega arith)) (omega arith)
+shown-fate (waiting (atBarrier b)) =
     let code = fateCode (waiting (atBarrier b)) in
-    simp (le-ltb code codeExited (omega arith), lt-ltb codeFailed code (omega arith))
+    simp (le-ltb code codeAsleep (omega arith), ne-eqb code codeAsleep (λ e. omega arith)) (omega arith)
 
-all-gone : (fates : List ℕ) (vs : List Worker) (w : ℕ)
+final-fate : (f : Fate) → codeFinal (fateCode f) ≡ isFinal f
+final-fate going = refl
+final-fate exited = refl
+final-fate failed = refl
+final-fate asleep = refl
+final-fate (waiting (onCondition c)) =
+    let code = fateCode (waiting (onCondition c)) in
+    simp (le-ltb code codeExited (omega arith), lt-ltb codeAsleep code (omega arith))
+final-fate (waiting (atBarrier b)) =
+    let code = fateCode (waiting (atBarrier b)) in
+    simp (le-ltb code codeExited (omega arith), lt-ltb codeAsleep code (omega arith))
+
+all-over : (fates : List ℕ) (vs : List Worker) (w : ℕ)
     → ((i : ℕ) → i < length vs → getD fates (w + i) 0 ≡ fateCode (getD vs i newWorker .fate))
-    → allGone fates (length vs) w ≡ allLeft vs
-unfolding allGone allLeft
-all-gone fates [] w same = refl
-all-gone fates (v ∷ vs) w same =
-    ap (λ (b : Bool). b && allGone fates (length vs) (suc w)) (ap isGone here ∙ gone-fate (v .fate))
-    ∙ ap (λ (b : Bool). hasLeft (v .fate) && b) (all-gone fates vs (suc w) rest)
+    → allOver fates (length vs) w ≡ allFinal vs
+unfolding allOver allFinal
+all-over fates [] w same = refl
+all-over fates (v ∷ vs) w same =
+    ap (λ (b : Bool). b && allOver fates (length vs) (suc w)) (ap codeFinal here ∙ final-fate (v .fate))
+    ∙ ap (λ (b : Bool). isFinal (v .fate) && b) (all-over fates vs (suc w) rest)
   where
     here : getD fates w 0 ≡ fateCode (v .fate)
     here = ap (λ (k : ℕ). getD fates k 0) (let e : w ≡ w + 0 = omega arith in e) ∙ same 0 (omega arith)
@@ -67,12 +73,12 @@ module _ (s : State) (n : ℕ) (fates : List ℕ) (size : length (s .workers) �
   end-number : endBy (s .list) fates n ≡ endNumber (endOf s)
   unfolding endOf
   end-number =
-      ap (λ (b : Bool). endNumber (cond (noneLeft (s .list)) (cond b finished stuck) underWay)) gone
+      ap (λ (b : Bool). endNumber (cond (noneLeft (s .list)) (cond b finished stuck) underWay)) over
     where
-      gone : allGone fates n 0 ≡ allLeft (s .workers)
-      gone =
-          ap (λ (k : ℕ). allGone fates k 0) (sym size)
-          ∙ all-gone fates (s .workers) 0 (λ i h. ap (λ (k : ℕ). getD fates k 0) (let e : 0 + i ≡ i = omega arith in e) ∙ same i (omega (arith, size, h)))
+      over : allOver fates n 0 ≡ allFinal (s .workers)
+      over =
+          ap (λ (k : ℕ). allOver fates k 0) (sym size)
+          ∙ all-over fates (s .workers) 0 (λ i h. ap (λ (k : ℕ). getD fates k 0) (let e : 0 + i ≡ i = omega arith in e) ∙ same i (omega (arith, size, h)))
 
   pub report-same : reportOf (endBy (s .list) fates n) n (record { moves = s .moves; rounds = s .rounds; records = length (s .log) }) fates
       ≡ reportBytes s

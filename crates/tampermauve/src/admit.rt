@@ -1,5 +1,6 @@
 // Whether a run is admitted.
 use crate::ACCEPTED;
+use format::fates::GOING;
 use format::limits::BARRIER_COUNT;
 use format::limits::WORKERS_LIMIT;
 use journal::log::LOG_LENGTH;
@@ -75,6 +76,7 @@ fn refused(f: Refusal) -> Admitted
             workers: 0,
             sizes: [0u8; BARRIER_COUNT],
             firsts: [0usize; WORKERS_LIMIT + 1],
+            fates: [GOING; WORKERS_LIMIT],
         },
     }
 }

@@ -51,7 +51,18 @@ pub extern "C" fn tampermauve_run(
     let workers = admitted.layout.workers;
     let sizes = admitted.layout.sizes;
     let firsts = admitted.layout.firsts;
-    let played = play(file, workers, &sizes, &firsts, turns, memory, log, work);
+    let first = admitted.layout.fates;
+    let played = play(
+        file,
+        workers,
+        &sizes,
+        &firsts,
+        first,
+        turns,
+        memory,
+        log,
+        work,
+    );
     let t = played.schedule;
     let fates = played.fates;
     let counts = t.counts;

@@ -10,18 +10,18 @@ is-empty-requires c κs = search needs
 returns : tie.Need-returns
 returns c = simp (← c .before .is-empty .ensures, not-true (c .before .is-empty .result) (c .if1 .taken))
 
-all-gone-requires : tie.Need-all-gone-requires
-all-gone-requires c κs = search needs
+all-over-requires : tie.Need-all-over-requires
+all-over-requires c κs = search needs
 
 returns-2 : tie.Need-returns-2
 returns-2 c =
     let empty = c .before .before in
-    simp (← empty .before .is-empty .ensures, not-false (empty .before .is-empty .result) (empty .if1 .left), ← c .before .all-gone .ensures, c .if2 .taken)
+    simp (← empty .before .is-empty .ensures, not-false (empty .before .is-empty .result) (empty .if1 .left), ← c .before .all-over .ensures, c .if2 .taken)
 
 returns-3 : tie.Need-returns-3
 returns-3 c =
     let empty = c .before .before in
-    simp (← empty .before .is-empty .ensures, not-false (empty .before .is-empty .result) (empty .if1 .left), ← c .before .all-gone .ensures, c .if2 .left)
+    simp (← empty .before .is-empty .ensures, not-false (empty .before .is-empty .result) (empty .if1 .left), ← c .before .all-over .ensures, c .if2 .left)
 
 pub end-of-spec : {M : Type 1} → statement M
-end-of-spec = tie.close (tie.spec is-empty-requires returns all-gone-requires returns-2 returns-3)
+end-of-spec = tie.close (tie.spec is-empty-requires returns all-over-requires returns-2 returns-3)

@@ -44,7 +44,7 @@ module _ (c : tie.Else1) where
 
 play-requires : tie.Need-play-requires
 play-requires c κs =
-    let e = c .before .before .before .before .before .before .before in
+    let e = c .before .before .before .before .before .before .before .before in
     let a = admitted e in
     playing (file a) (turns a) (given a) _ (a .admit .ensures) (none e)
 
@@ -53,7 +53,7 @@ abbrev at-play : tie.After-close-buffers-arg3 → tie.After-play
 at-play c = c .before .before .before .before .before .before .before .before .before .before .before .before .before
 
 abbrev at-else : tie.After-play → tie.Else1
-at-else c = c .before .before .before .before .before .before .before .before
+at-else c = c .before .before .before .before .before .before .before .before .before
 
 close-buffers-requires : tie.Need-close-buffers-requires
 close-buffers-requires c κs =

@@ -1,14 +1,16 @@
+-- `first_round`: the list of those who are awake, and their marks.
 use borrow.Author.Needs.{needs}
 use mathlib.Core.List.{List}
+use lib.ListN.{length}
 use mathlib.Core.Path.{refl, ap, _∙_}
 use Prim.Native.Nat.{ℕ}
 use Rattle.token.specs.Token.{raised}
-use Rattle.engine.proofs.Playing.{up-to-below}
+use Rattle.engine.proofs.Playing.{awake-below}
 use Rattle.engine.proofs.play.first_round.Statement.{statement}
 use Rattle.engine.proofs.play.first_round.Tie as tie
 
-up-to-requires : tie.Need-up-to-requires
-up-to-requires c κs = search needs
+among-requires : tie.Need-among-requires
+among-requires c κs = search needs
 
 empty-requires : tie.Need-empty-requires
 empty-requires c κs = search needs
@@ -18,23 +20,27 @@ empty-requires-2 c κs = search needs
 
 raise-requires : tie.Need-raise-requires
 raise-requires c κs =
-    let h = c .before .before .before .up-to .ensures in
-    (h .good, up-to-below (c .before .before .before .before .pre) (h .list))
+    let h = c .before .before .before .among .ensures in
+    (h .good, awake-below (c .before .before .before .before .args .fates .now) (c .before .before .before .before .pre) (h .list))
+
+count-requires : tie.Need-count-requires
+count-requires c κs = search needs
 
 returns : tie.Need-returns
 returns c =
-    let h = c .before .before .before .before .up-to .ensures in
+    let r = c .before in
+    let h = r .before .before .before .before .among .ensures in
     record {
       list = h;
-      next = c .before .before .before .empty .ensures;
-      waiting = c .before .before .empty2 .ensures;
-      away = refl;
+      next = r .before .before .before .empty .ensures;
+      waiting = r .before .before .empty2 .ensures;
+      away = c .count .ensures ∙ ap length (h .list);
       moves = refl;
       rounds = refl;
       records = refl;
-      marks = c .raise .ensures ∙ ap (λ (ws : List ℕ). raised ws (c .before .before .before .before .before .args .can .now)) (h .list);
+      marks = r .raise .ensures ∙ ap (λ (ws : List ℕ). raised ws (r .before .before .before .before .before .args .can .now)) (h .list);
     }
 
 pub first-round-spec : {M : Type 1} → statement M
 first-round-spec =
-    tie.close (tie.spec up-to-requires empty-requires empty-requires-2 raise-requires returns)
+    tie.close (tie.spec among-requires empty-requires empty-requires-2 raise-requires count-requires returns)

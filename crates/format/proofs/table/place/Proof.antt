@@ -24,19 +24,19 @@ returns c = on-run (λ k. k - 16) (placeIn table) 16 7 refl _ (omega arith) (ome
 
 returns-2 : tie.Need-returns-2
 unfolding placeIn countFrom
-returns-2 c = on-run (λ k. k - 32 + 7) (placeIn table) 32 7 refl _ (omega arith) (omega arith)
+returns-2 c = on-run (λ k. k - 32 + 7) (placeIn table) 32 8 refl _ (omega arith) (omega arith)
 
 returns-3 : tie.Need-returns-3
 unfolding placeIn countFrom
-returns-3 c = on-run (λ k. 14) (placeIn table) 0 16 refl (c .before .args .op) (omega arith) (omega arith)
+returns-3 c = on-run (λ k. 15) (placeIn table) 0 16 refl (c .before .args .op) (omega arith) (omega arith)
 
 returns-4 : tie.Need-returns-4
 unfolding placeIn countFrom
-returns-4 c = on-run (λ k. 14) (placeIn table) 23 9 refl (c .before .before .before .args .op) (omega arith) (omega arith)
+returns-4 c = on-run (λ k. 15) (placeIn table) 23 9 refl (c .before .before .before .args .op) (omega arith) (omega arith)
 
 returns-5 : tie.Need-returns-5
 unfolding placeIn countFrom
-returns-5 c = on-run (λ k. 14) (placeIn table) 39 217 refl (c .before .before .before .before .args .op) (omega arith) (omega arith)
+returns-5 c = on-run (λ k. 15) (placeIn table) 40 216 refl (c .before .before .before .before .args .op) (omega arith) (omega arith)
 
 pub place-spec : {M : Type 1} → statement M
 place-spec =

@@ -46,7 +46,8 @@ returns c =
       verdict =
           sym (verdict-step _ _ _ (inside .loop-test .taken) (unmarked-rule _ _ (sym (c .before .before .decode .ensures) ∙ c .enum-told .given .1)))
           ∙ inv .3;
-      barriers = inv .2 .soFar;
+      head = inv .2 .soFar;
+      noSleeper = inv .2 .noSleeper;
       noBarrier = λ q. not-refused _ _ q;
     }
 
@@ -94,7 +95,8 @@ returns-2 c =
       least = inv .0;
       most = inv .1;
       verdict = by-test (c .before) (c .if2 .taken);
-      barriers = inv .2 .soFar;
+      head = inv .2 .soFar;
+      noSleeper = inv .2 .noSleeper;
       noBarrier = λ q. not-refused _ _ q;
     }
 
@@ -143,7 +145,8 @@ returns-3 c =
       least = inv .0;
       most = inv .1;
       verdict = inv .3;
-      barriers = inv .2 .soFar;
+      head = inv .2 .soFar;
+      noSleeper = inv .2 .noSleeper;
       noBarrier = λ q h. absurd (omega arith);
     }
 
@@ -155,7 +158,8 @@ returns-4 c =
       least = inv .0;
       most = inv .1;
       verdict = inv .3;
-      barriers = inv .2 .soFar;
+      head = inv .2 .soFar;
+      noSleeper = inv .2 .noSleeper;
       noBarrier = λ q h. no-barrier-record (fileRecord (file r) (i r)) (decoded r) (c .if1 .taken);
     }
 

@@ -15,10 +15,11 @@ use Rattle.protocol.proofs.Accepted.{length-right}
 use Rattle.protocol.proofs.Taken.{plan-record}
 use Rattle.plan.specs.Answer.{recordOf, decodedOf, verdictOf}
 use Rattle.plan.specs.Reading.{fileRecord, before, verdictFrom}
+use Rattle.plan.specs.Sleeping.{SleepersComing}
 use Rattle.plan.specs.declared.answer.Verdict.{Verdict}
 use Rattle.plan.specs.declared.decode.Decoded.the-variants.{Read}
 use Rattle.plan.proofs.Readings.{Body, told, unmarked-rule, rules-first}
-use Rattle.plan.proofs.Checks.{by-length, by-first, plan-rule, steps-so-far, skip-checking, laid-out, turned-down}
+use Rattle.plan.proofs.Checks.{by-length, by-first, plan-rule, sleepers-coming, steps-so-far, skip-checking, laid-out, turned-down}
 use Rattle.plan.proofs.check.check.Statement.{statement}
 use Rattle.plan.proofs.check.check.Tie as tie
 
@@ -137,61 +138,100 @@ module _ (c : tie.After-enum-told2) where
   abbrev plan : List ℕ
   plan = file (sizedAt planned)
 
-  from-steps : protocol.check plan ≡ verdictFrom plan (length plan / recordLength) (c .before .before .read-barriers .result .next)
-  from-steps =
-      from-barriers (c .before .before)
-      ∙ ap (λ (v : Verdict). both (verdictOf v) (verdictFrom plan (length plan / recordLength) (c .before .before .read-barriers .result .next))) (c .enum-told2 .given .1)
+  abbrev next : ℕ
+  next = c .before .before .read-barriers .result .next
 
-read-steps-requires : tie.Need-read-steps-requires
-read-steps-requires c κs =
-    let b = c .before .before .before in
-    let read = b .before .before .read-barriers in
-    let barriers = steps-so-far (read .ensures) (ap verdictOf (b .enum-told2 .given .1)) (sym (same-worker (planned b))) (taken (b .before .before .before) .most) in
-    (omega arith, (barriers, refl))
+  from-sleepers : protocol.check plan ≡ verdictFrom plan (length plan / recordLength) next
+  from-sleepers =
+      from-barriers (c .before .before)
+      ∙ ap (λ (v : Verdict). both (verdictOf v) (verdictFrom plan (length plan / recordLength) next)) (c .enum-told2 .given .1)
+
+  coming : SleepersComing plan (length plan / recordLength) (first planned .worker) next
+  coming =
+      sleepers-coming (c .before .before .read-barriers .ensures) (ap verdictOf (c .enum-told2 .given .1)) (sym (same-worker planned)) (taken (c .before .before .before) .most)
+
+read-sleepers-requires : tie.Need-read-sleepers-requires
+read-sleepers-requires c κs = (omega arith, (coming (c .before .before), refl))
 
 enum-known-verdict-2 : tie.Need-enum-known-verdict-2
 enum-known-verdict-2 c = search needs
 
--- the verdict, from the skips on
-module _ (c : tie.After-read-steps) where
-  abbrev read : List ℕ
-  read = plan (c .before .before .before .before)
+-- the verdict, from the sleep records on
+module _ (c : tie.After-read-sleepers) where
+  abbrev barred : tie.After-enum-told2
+  barred = c .before .before .before
 
-  from-skips : protocol.check read ≡ both (verdictOf (c .read-steps .result)) (protocol.checkSkips 0 (before read (length read / recordLength)))
-  from-skips = from-steps (c .before .before .before .before) ∙ sym (c .read-steps .ensures .verdict)
-
-  from-skips-by : {v : Verdict} → c .read-steps .result ≡ v
-      → protocol.check read ≡ both (verdictOf v) (protocol.checkSkips 0 (before read (length read / recordLength)))
-  from-skips-by e =
-      from-skips ∙ ap (λ (v : Verdict). both (verdictOf v) (protocol.checkSkips 0 (before read (length read / recordLength)))) e
+  from-steps-by : {v : Verdict} → c .read-sleepers .result .verdict ≡ v
+      → protocol.check (plan barred) ≡ both (verdictOf v) (verdictFrom (plan barred) (length (plan barred) / recordLength) (c .read-sleepers .result .next))
+  from-steps-by e =
+      from-sleepers barred ∙ sym (c .read-sleepers .ensures .verdict)
+      ∙ ap (λ (v : Verdict). both (verdictOf v) (verdictFrom (plan barred) (length (plan barred) / recordLength) (c .read-sleepers .result .next))) e
 
 refused-requires-5 : tie.Need-refused-requires-5
 refused-requires-5 c κs = search needs
 
 returns-5 : tie.Need-returns-5
-returns-5 c = turned-down (c .refused5 .ensures) (from-skips-by (c .before .before .before .before) (c .before .before .verdict2 .given .1))
+returns-5 c = turned-down (c .refused5 .ensures) (from-steps-by (c .before .before .before .before) (c .before .before .verdict2 .given .1))
 
 enum-told-3 : tie.Need-enum-told-3
 enum-told-3 c = search needs
 
+read-steps-requires : tie.Need-read-steps-requires
+read-steps-requires c κs =
+    let s = c .before .before in
+    let d = s .before .before in
+    let b = barred d in (
+      omega arith,
+      (steps-so-far (b .before .before .read-barriers .ensures) (coming b) (d .read-sleepers .ensures) (ap verdictOf (s .enum-told3 .given .1)), refl),
+    )
+
+enum-known-verdict-3 : tie.Need-enum-known-verdict-3
+enum-known-verdict-3 c = search needs
+
+-- the verdict, from the skips on
+module _ (c : tie.After-read-steps) where
+  abbrev slept : tie.After-enum-told3
+  slept = c .before .before .before
+
+  abbrev read : List ℕ
+  read = plan (barred (slept .before .before))
+
+  from-skips-by : {v : Verdict} → c .read-steps .result ≡ v
+      → protocol.check read ≡ both (verdictOf v) (protocol.checkSkips 0 (before read (length read / recordLength)))
+  from-skips-by e =
+      from-steps-by (slept .before .before) (slept .enum-told3 .given .1) ∙ sym (c .read-steps .ensures .verdict)
+      ∙ ap (λ (v : Verdict). both (verdictOf v) (protocol.checkSkips 0 (before read (length read / recordLength)))) e
+
+refused-requires-6 : tie.Need-refused-requires-6
+refused-requires-6 c κs = search needs
+
+returns-6 : tie.Need-returns-6
+returns-6 c = turned-down (c .refused6 .ensures) (from-skips-by (c .before .before .before .before) (c .before .before .verdict3 .given .1))
+
+enum-told-4 : tie.Need-enum-told-4
+enum-told-4 c = search needs
+
 check-skips-requires : tie.Need-check-skips-requires
 check-skips-requires c κs =
     let e = c .before in
-    let s = sizedAt (planned (e .before .before .before .before .before .before)) in
-    let all = e .before .before .read-steps .ensures .read (ap verdictOf (e .enum-told3 .given .1)) in
+    let r = e .before .before in
+    let s = sizedAt (planned (barred (slept r .before .before))) in
+    let all = r .read-steps .ensures .read (ap verdictOf (e .enum-told4 .given .1)) in
     (omega arith, (few s, skip-checking all (some s)))
 
-returns-6 : tie.Need-returns-6
-returns-6 c =
+returns-7 : tie.Need-returns-7
+returns-7 c =
     let e = c .before .before in
     let r = e .before .before in
-    let b = r .before .before .before .before in
-    let ok = e .enum-told3 .given .1 in
+    let d = slept r .before .before in
+    let b = barred d in
+    let ok = e .enum-told4 .given .1 in
     record {
       verdict = c .check-skips .ensures ∙ sym (from-skips-by r ok);
       layout = λ q.
-          laid-out (r .read-steps .ensures .read (ap verdictOf ok)) (some (sizedAt (planned b))) (same-worker (planned b)) (b .before .before .read-barriers .ensures .barriers .size)
-          (r .read-steps .ensures .size);
+          laid-out (r .read-steps .ensures .read (ap verdictOf ok)) (some (sizedAt (planned b))) (same-worker (planned b)) (b .before .before .read-barriers .ensures .head .size)
+          (r .read-steps .ensures .size)
+          (d .read-sleepers .ensures .first (ap verdictOf (slept r .enum-told3 .given .1)));
     }
 
 pub check-spec : {M : Type 1} → statement M
@@ -214,10 +254,15 @@ check-spec =
     refused-requires-4
     returns-4
     enum-told-2
-    read-steps-requires
+    read-sleepers-requires
     enum-known-verdict-2
     refused-requires-5
     returns-5
     enum-told-3
+    read-steps-requires
+    enum-known-verdict-3
+    refused-requires-6
+    returns-6
+    enum-told-4
     check-skips-requires
-    returns-6)
+    returns-7)

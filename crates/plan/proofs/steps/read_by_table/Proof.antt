@@ -3,17 +3,17 @@ use native.Mathlib.Omega.{arith}
 use borrow.Author.Needs.{needs}
 use Prim.Native.Nat.{ℕ, _+_, _-_, _<_, _≤_}
 use mathlib.Core.Path.{_≡_, refl, ap, _∙_, sym, subst, subst⁻¹}
-use mathlib.Core.Bool.{false}
+use mathlib.Core.Bool.{true, false}
 use mathlib.Core.List.{List}
 use mathlib.Core.Option.{some}
 use lib.ListN.{getD}
-use Rattle.protocol.specs.Format.{isBarrier, workersLimit}
+use Rattle.protocol.specs.Format.{isBarrier, isSleep, sleepersIn, workersLimit}
 use Rattle.protocol.specs.Refusals as protocol
 use Rattle.format.specs.Table.{limits}
 use Rattle.format.specs.declared.table.Row.{Row}
 use Rattle.format.proofs.Rows.{place-inside, no-row, row-at}
 use Rattle.plan.specs.Answer.{ruleAs}
-use Rattle.plan.specs.Reading.{fileRecord, verdictFrom}
+use Rattle.plan.specs.Reading.{fileRecord, before, verdictFrom}
 use Rattle.plan.specs.Stepping.{keptRule}
 use Rattle.plan.proofs.Readings.{Body, verdict-step, unmarked-rule, not-refused}
 use Rattle.plan.proofs.Stepped.{StepsKept, OneStep, kept-first, begun-before, same-rule, no-step-rule, worker-below, step-more, read-through, records-read}
@@ -22,7 +22,7 @@ use Rattle.plan.proofs.steps.read_by_table.Tie as tie
 
 abbrev Inv-loop : tie.InvT-loop
 Inv-loop file count n sizes start rows firsts₀ opened₀ i₀ firsts opened i =
-    (i ≤ count) × (opened ≤ n) × (opened ≡ 0 → i ≡ start) × StepsKept file i n sizes opened firsts
+    (i ≤ count) × (opened ≤ n) × (opened ≡ 0 → i ≡ start) × StepsKept file i n sizes (sleepersIn (before file start)) opened firsts
     × (verdictFrom file count i ≡ verdictFrom file count start)
 
 abbrev μ-loop : tie.MeasureT-loop
@@ -78,15 +78,19 @@ module _ (c : tie.After-place Inv-loop μ-loop) where
   abbrev body : Body
   body = read .r .given .0 .0
 
-  one-step : OneStep (start .args .file .now) (at .loop .i) (start .args .n) (start .args .sizes .now) (at .loop .opened) (at .loop .firsts) body
+  one-step : OneStep (start .args .file .now) (at .loop .i) (start .args .n) (start .args .sizes .now)
+      (sleepersIn (before (start .args .file .now) (start .args .start))) (at .loop .opened) (at .loop .firsts) body
   one-step =
       let so = start .pre .1 .1 .0 in
       let inv = at .loop .inv in
       record {
         kept = inv .3;
         noBarrier = λ z.
-            subst⁻¹ (λ (j : ℕ). isBarrier (fileRecord (start .args .file .now) j) ≡ false) (inv .2 z)
+            subst⁻¹ (λ (j : ℕ). isBarrier (fileRecord (start .args .file .now) j) ≡ true → protocol.anyOf isSleep (before (start .args .file .now) j) ≡ true) (inv .2 z)
             (so .noBarrier (omega (arith, inv .2 z, in-loop .loop-test .taken)));
+        noSleep = λ z.
+            subst⁻¹ (λ (j : ℕ). isSleep (fileRecord (start .args .file .now) j) ≡ false) (inv .2 z)
+            (so .noSleep (omega (arith, inv .2 z, in-loop .loop-test .taken)));
         decoded = sym (read .before .before .decode .ensures) ∙ read .r .given .1;
       }
 
@@ -112,7 +116,7 @@ returns-2 c =
     }
 
 -- an op that has a row
-has-row : (c : tie.Else1 Inv-loop μ-loop) → c .before .place .result < 14
+has-row : (c : tie.Else1 Inv-loop μ-loop) → c .before .place .result < 15
 has-row c = omega (arith, place-inside (body (c .before) .op), c .before .place .ensures, c .if1 .left)
 
 mul-t19 : tie.Need-mul-t19 Inv-loop μ-loop
@@ -217,7 +221,7 @@ returns-4 c =
     record {
       verdict = sym (read-through (a .file .now) (a .count)) ∙ (ap (λ (j : ℕ). verdictFrom (a .file .now) (a .count) j) (sym all) ∙ inv .4);
       size = c .open-workers2 .ensures .size ∙ inv .3 .size;
-      read = λ q. records-read (subst (λ (j : ℕ). StepsKept (a .file .now) j (a .n) (a .sizes .now) (l .before .loop .opened) (l .before .loop .firsts)) all (inv .3)) (c .open-workers2 .ensures);
+      read = λ q. records-read (subst (λ (j : ℕ). StepsKept (a .file .now) j (a .n) (a .sizes .now) (sleepersIn (before (a .file .now) (a .start))) (l .before .loop .opened) (l .before .loop .firsts)) all (inv .3)) (c .open-workers2 .ensures);
     }
 
 pub read-by-table-spec : {M : Type 1} → statement M

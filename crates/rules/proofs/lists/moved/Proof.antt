@@ -8,7 +8,7 @@ use lib.ListN.{length}
 use Rattle.protocol.specs.Rounds.{member}
 use Rattle.queue.specs.List.{listOf}
 use Rattle.rules.specs.Rules.{wokenOf, joinedOf}
-use Rattle.rules.proofs.Moving.{length-keep}
+use Rattle.queue.proofs.Picked.{length-keep}
 use Rattle.rules.proofs.lists.moved.Statement.{statement}
 use Rattle.rules.proofs.lists.moved.Tie as tie
 
@@ -18,13 +18,13 @@ list-after-requires c κs = let room = c .before .before .before .before .pre in
       good = room .list;
       holder = omega arith;
       held = room .held;
-      fits = omega (arith, room .few, room .total);
+      fits = omega (arith, room .room);
       some = room .leaving .some;
     }
 
 next-after-requires : tie.Need-next-after-requires
 next-after-requires c κs = let room = c .before .before .before .before .before .pre in
-    (room .next, room .good, omega (arith, room .few, room .total, room .held), omega (arith, room .holder))
+    (room .next, room .good, omega (arith, room .room, room .held), omega (arith, room .holder))
 
 stay-requires : tie.Need-stay-requires
 stay-requires c κs = search needs

@@ -4,14 +4,16 @@ use native.Mathlib.Omega.{arith}
 use borrow.Author.Tests.{le-ltb, eq-eqb, ne-eqb}
 use Prim.Native.Nat.{_-_}
 use mathlib.Core.Path.{refl, ap}
+use denote.Ref.{now}
 use lib.ListN.{length}
 use Rattle.protocol.specs.Steps.{atBarrier, waiting}
+use Rattle.protocol.proofs.Counting.{clash}
 use Rattle.queue.specs.List.{listOf}
 use Rattle.queue.proofs.Digits.{length-list}
-use Rattle.rules.specs.Codes.{fateCode}
+use Rattle.rules.specs.Codes.{fateCode, barrierCode}
 use Rattle.rules.proofs.Codes.{fate-code}
-use Rattle.rules.proofs.Moving.{met-few, met-all, met-below, met-short}
-use Rattle.rules.proofs.Rulings.{asleep}
+use Rattle.rules.proofs.Moving.{found-member, met-few, met-all, met-below, met-short}
+use Rattle.rules.proofs.Rulings.{wakes-nobody}
 use Rattle.rules.proofs.ruling.barrier.Statement.{statement}
 use Rattle.rules.proofs.ruling.barrier.Tie as tie
 
@@ -19,7 +21,7 @@ failed-requires : tie.Need-failed-requires
 failed-requires c κs = search needs
 
 returns : tie.Need-returns
-returns c = rw (ne-eqb (c .before .before .args .held) 0 (c .before .if1 .taken)) (c .failed .ensures _ _ _)
+returns c = λ called. rw (ne-eqb (c .before .before .args .held) 0 (c .before .if1 .taken)) (c .failed .ensures _ called _ _)
 
 met-requires : tie.Need-met-requires
 met-requires c κs = search needs
@@ -34,7 +36,7 @@ add-t12 : tie.Need-add-t12
 add-t12 c = search needs
 
 returns-2 : tie.Need-returns-2
-returns-2 c =
+returns-2 c = λ called.
     let q = c .before .before .met in
     let s = c .before .before .before in
     let a = s .before .args in
@@ -43,11 +45,11 @@ returns-2 c =
     let fewer = met-few m (omega (arith, length-list (q .result), c .if2 .taken)) in
     record {
       same = rw (eq-eqb (a .held) 0 (s .if1 .left), fewer, fate-code f);
-      sound = asleep refl (ap fateCode (fate-code f)) (omega arith) (m .good) (met-below m (s .before .pre .2)) (met-short m) (λ y. cc);
+      sound = wakes-nobody refl (ap fateCode (fate-code f)) (omega arith) (m .good) (met-below m (s .before .pre .2)) (omega (arith, met-short m)) (λ y. clash y);
     }
 
 returns-3 : tie.Need-returns-3
-returns-3 c =
+returns-3 c = λ called.
     let q = c .before .before .met in
     let s = c .before .before .before in
     let a = s .before .args in
@@ -55,7 +57,7 @@ returns-3 c =
     let all = met-all m (omega (arith, length-list (q .result), c .if2 .left)) in
     record {
       same = rw (eq-eqb (a .held) 0 (s .if1 .left), ← all, le-ltb (length (listOf (q .result))) (a .size - 1) (omega (arith, length-list (q .result), c .if2 .left)));
-      sound = asleep refl refl (omega arith) (m .good) (met-below m (s .before .pre .2)) (met-short m) (λ y. all);
+      sound = wakes-nobody refl refl (omega arith) (m .good) (met-below m (s .before .pre .2)) (omega (arith, met-short m)) (λ y. found-member (now (a .fates)) (listOf (a .waiting)) (barrierCode (a .b)) all);
     }
 
 pub barrier-spec : {M : Type 1} → statement M

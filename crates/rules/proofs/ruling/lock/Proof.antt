@@ -22,7 +22,7 @@ cast-t7 : tie.Need-cast-t7
 cast-t7 c = search needs
 
 returns : tie.Need-returns
-returns c = λ number waiting fates.
+returns c = λ key called waiting fates.
     record {
       same = locks (c .before .before .args .held) _ _ (c .commits-at-zero .ensures) (omega arith) (omega arith) (omega arith);
       sound = calm refl refl refl (omega arith) (c .before .empty .ensures);

@@ -1,7 +1,7 @@
 -- `rule` meets its contract. Assumes nothing.
 use borrow.Author.Needs.{needs}
 use native.Mathlib.Omega.{arith}
-use Rattle.rules.proofs.Rulings.{by-lock, by-unlock, by-wait, by-signal, by-barrier, by-exit}
+use Rattle.rules.proofs.Rulings.{by-lock, by-unlock, by-wait, by-signal, by-barrier, by-exit, by-start}
 use Rattle.rules.proofs.ruling.rule.Statement.{statement}
 use Rattle.rules.proofs.ruling.rule.Tie as tie
 
@@ -9,19 +9,19 @@ lock-requires : tie.Need-lock-requires
 lock-requires c κs = search needs
 
 returns : tie.Need-returns
-returns c = by-lock (c .before .if1 .taken) (c .lock .ensures _ _ _)
+returns c = by-lock (c .before .if1 .taken) (c .lock .ensures _ _ _ _)
 
 unlock-requires : tie.Need-unlock-requires
 unlock-requires c κs = search needs
 
 returns-2 : tie.Need-returns-2
-returns-2 c = by-unlock (c .before .if2 .taken) (c .unlock .ensures _ _ _)
+returns-2 c = by-unlock (c .before .if2 .taken) (c .unlock .ensures _ _ _ _)
 
 wait-requires : tie.Need-wait-requires
 wait-requires c κs = search needs
 
 returns-3 : tie.Need-returns-3
-returns-3 c = by-wait (c .before .if3 .taken) (c .wait .ensures _ _ _)
+returns-3 c = by-wait (c .before .if3 .taken) (c .wait .ensures _ _ _ _)
 
 element-copy-out-barrier : tie.Need-element-copy-out-barrier
 element-copy-out-barrier c = c .before .before .before .before .pre .barrier (c .if4 .taken)
@@ -36,15 +36,23 @@ exit-requires : tie.Need-exit-requires
 exit-requires c κs = search needs
 
 returns-5 : tie.Need-returns-5
-returns-5 c = by-exit (omega (arith, c .before .before .before .before .before .before .pre .most)) (c .exit .ensures _ _ _)
+returns-5 c = by-exit (c .before .if5 .taken) (c .exit .ensures _ _ _ _)
+
+start-requires : tie.Need-start-requires
+start-requires c κs =
+    let p = c .before .before .before .before .before .before .pre in
+    record { named = p .target (c .if6 .taken); awake = p .awake }
+
+returns-6 : tie.Need-returns-6
+returns-6 c = by-start (c .before .if6 .taken) (c .start .ensures)
 
 signal-requires : tie.Need-signal-requires
 signal-requires c κs = search needs
 
-returns-6 : tie.Need-returns-6
-returns-6 c =
-    let p = c .before .before .before .before .before .before .pre in
-    by-signal (omega (arith, p .least)) (omega (arith, p .most)) (c .signal .ensures)
+returns-7 : tie.Need-returns-7
+returns-7 c =
+    let p = c .before .before .before .before .before .before .before .pre in
+    by-signal (omega (arith, p .least)) (omega (arith, p .most)) (c .signal .ensures _ _)
 
 pub rule-spec : {M : Type 1} → statement M
 rule-spec =
@@ -61,5 +69,7 @@ rule-spec =
     returns-4
     exit-requires
     returns-5
+    start-requires
+    returns-6
     signal-requires
-    returns-6)
+    returns-7)

@@ -5,12 +5,14 @@ use Prim.Native.Nat.{ℕ}
 use mathlib.Core.Path.{_≡_, refl, sym, ap, _∙_}
 use mathlib.Core.List.{List}
 use denote.Ref.{now}
+use Rattle.protocol.proofs.Counting.{clash}
 use Rattle.queue.specs.List.{listOf}
+use Rattle.queue.proofs.Picked.{length-keep}
 use Rattle.queue.proofs.Laws.{some-in, below-first}
 use Rattle.rules.specs.Codes.{conditionCode}
 use Rattle.rules.specs.Rules.{found}
-use Rattle.rules.proofs.Moving.{length-keep, below-keep}
-use Rattle.rules.proofs.Rulings.{asleep, wakes-none, wakes-first}
+use Rattle.rules.proofs.Moving.{and-more, below-keep}
+use Rattle.rules.proofs.Rulings.{wakes-nobody, wakes-none, wakes-first}
 use Rattle.rules.proofs.ruling.signal.Statement.{statement}
 use Rattle.rules.proofs.ruling.signal.Tie as tie
 
@@ -40,7 +42,7 @@ asked : (c : tie.After-select)
 asked c = found-by (now (c .before .before .args .fates)) (listOf (c .before .before .args .waiting)) _ (conditionCode (c .before .before .args .condition)) (c .select .ensures .list) (omega arith)
 
 returns : tie.Need-returns
-returns c =
+returns c = λ key called.
     let q = c .before .before .select in
     let e₀ = asked (c .before .before) in
     let gives = c .before .before .before .gives-at-zero .ensures in
@@ -49,8 +51,8 @@ returns c =
     record {
       same = rw (← e₀, wakes-none (listOf (q .result)) (c .before .before .before .before .args .held) e, gives .same);
       sound =
-          asleep refl (gives .coded) (omega arith) (q .ensures .good) (rw e₀ (below-keep 8 _ _ (p .2))) (rw e₀ (length-keep _ _))
-          (λ y. cc);
+          wakes-nobody refl (gives .coded) (omega arith) (q .ensures .good) (rw e₀ (below-keep 8 _ _ (p .2))) (rw e₀ (and-more called (length-keep _ _)))
+          (λ y. clash y);
     }
 
 first-requires : tie.Need-first-requires
@@ -64,7 +66,7 @@ cast-t12 c =
     omega (arith, c .first .ensures, below-first 8 qs some (rw (q .ensures .list) (below-keep 8 _ _ (c .before .before .before .before .before .pre .2))))
 
 returns-2 : tie.Need-returns-2
-returns-2 c =
+returns-2 c = λ key called.
     let q = c .before .before .before .select in
     let e₀ = asked (c .before .before .before) in
     let gives = c .before .before .before .before .gives-at-zero .ensures in
@@ -79,8 +81,8 @@ returns-2 c =
         rises = omega arith;
         good = q .ensures .good;
         below = rw e₀ (below-keep 8 _ _ (s .pre .2));
-        few = rw e₀ (length-keep _ _);
-        all = λ y. cc;
+        few = rw e₀ (and-more called (length-keep _ _));
+        all = λ y. clash y;
       };
     }
 

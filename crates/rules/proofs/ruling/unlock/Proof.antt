@@ -11,7 +11,7 @@ failed-requires : tie.Need-failed-requires
 failed-requires c κs = search needs
 
 returns : tie.Need-returns
-returns c = λ number waiting fates. rw (eq-eqb (c .before .before .args .held) 0 (c .before .if1 .taken)) (c .failed .ensures number waiting fates)
+returns c = λ key called waiting fates. rw (eq-eqb (c .before .before .args .held) 0 (c .before .if1 .taken)) (c .failed .ensures key called waiting fates)
 
 empty-requires : tie.Need-empty-requires
 empty-requires c κs = search needs
@@ -29,7 +29,7 @@ cast-t7 : tie.Need-cast-t7
 cast-t7 c = search needs
 
 returns-2 : tie.Need-returns-2
-returns-2 c = λ number waiting fates.
+returns-2 c = λ key called waiting fates.
     let s = c .before .before .before in
     record {
       same =

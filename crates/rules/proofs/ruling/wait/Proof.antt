@@ -26,7 +26,7 @@ add-t7 : tie.Need-add-t7
 add-t7 c = search needs
 
 returns-2 : tie.Need-returns-2
-returns-2 c = λ number queue fates.
+returns-2 c = λ key called queue fates.
     let a = c .before .before .args in
     let f = waiting (onCondition (a .condition)) in
     record {
