@@ -1,5 +1,6 @@
 // The holder's synchronising step: decided by its rule, then written.
 use crate::state::Schedule;
+use format::fates::AT_BARRIER;
 use format::limits::BARRIER_COUNT;
 use format::limits::WORKERS_LIMIT;
 use journal::log::packed;
@@ -11,7 +12,6 @@ use rules::lists::Lists;
 use rules::lists::moved;
 use rules::ruling::Ruling;
 use rules::ruling::Uncommitted;
-use rules::ruling::key;
 use rules::ruling::rule;
 use token::turn_over;
 use worker::Worker;
@@ -48,7 +48,8 @@ fn decide(
 {
     let waiting = lists.waiting;
     let ruling = rule(r.op, r.number, held, sizes, waiting, fates);
-    let after = moved(lists, ruling, h, fates, key(r.op, r.number));
+    let code = AT_BARRIER + 2 * (r.number as u64);
+    let after = moved(lists, ruling, h, fates, code);
     Decision {
         ruling,
         lists: after,

@@ -40,9 +40,9 @@ getD-freed (v ∷ vs) fates w = getD-freed vs (set fates v 0) w ∙ rw getD-zero
     go true false x = refl
     go false b x = refl
 
--- those who wait no more
+-- those who wait or sleep no more
 abbrev leaving : Ruling → List ℕ
-leaving r = wokenOf (r .wakes) (listOf (r .queued)) ++ joinedOf (r .joins) (listOf (r .queued))
+leaving r = wokenOf (r .wakes) (listOf (r .queued)) ++ joinedOf (r .joins || r .starts) (listOf (r .queued))
 
 -- the holder's fate, stored last
 pub settled :

@@ -11,11 +11,12 @@ use lib.Dec.{eqb, ltb}
 use lib.ListN.{length, getD, take}
 use Rattle.protocol.specs.Steps.{QueueName, waiting}
 use Rattle.protocol.specs.Rounds.{State, workerAt, waitsOn, queueOf, member, keep, without}
+use Rattle.protocol.proofs.Bools.{or-false}
 use Rattle.queue.proofs.Picked.{length-keep}
 use Rattle.queue.specs.declared.Queue.{Queue}
 use Rattle.queue.specs.List.{listOf, Holds, Below}
 use Rattle.rules.specs.Codes.{fateCode}
-use Rattle.rules.specs.Rules.{wokenOf, joinedOf, found, Met}
+use Rattle.rules.specs.Rules.{wokenOf, joinedOf, found, Alone, Met}
 use Rattle.rules.proofs.Codes.{code-same}
 
 pub keep-all : (ws : List ℕ) → without [] ws ≡ ws
@@ -91,20 +92,28 @@ module _ {fates : List ℕ} {waiting : Queue} {code size : ℕ} {q : Queue} (m :
     | no l ↦ rw (m .late (omega arith)) (below-keep n _ (listOf waiting) b)
   ]
 
--- of a list, those who pass a test are kept
-pub kept-member : (t : ℕ → Bool) (ws : List ℕ) (w : ℕ) → member w ws ≡ true → t w ≡ member w (keep t ws)
-kept-member t ws w m = sym (member-keep t ws w ∙ ap (λ (b : Bool). b && t w) m)
+-- without those who pass a test: those who do not
+pub without-kept : (t : ℕ → Bool) (ws : List ℕ) → without (keep t ws) ws ≡ keep (λ w. not (t w)) ws
+without-kept t ws = keep-same (λ w. not (member w (keep t ws))) (λ w. not (t w)) ws (λ w m. rw (member-keep, m))
 
-pub found-member : (fates ws : List ℕ) (code : ℕ) {qs : List ℕ} → qs ≡ found fates ws code → (w : ℕ) → member w ws ≡ true → eqb (getD fates w 0) code ≡ member w qs
-found-member fates ws code e w m = kept-member (λ v. eqb (getD fates v 0) code) ws w m ∙ ap (λ (vs : List ℕ). member w vs) (sym e)
+-- a sleeper that is started was not among those who wait
+pub started-waits-not : (wakes joins starts : Bool) {queued : Queue} (ws : List ℕ) → (starts ≡ true → Alone wakes joins queued ws)
+    → without (wokenOf wakes (listOf queued) ++ joinedOf (joins || starts) (listOf queued)) ws ≡ without (wokenOf wakes (listOf queued) ++ joinedOf joins (listOf queued)) ws
+unfolding member
+started-waits-not wakes joins false {queued} ws alone =
+    ap (λ (b : Bool). without (wokenOf wakes (listOf queued) ++ joinedOf b (listOf queued)) ws) (or-false joins)
+started-waits-not wakes joins true {queued} ws alone =
+    let a = alone refl in
+    rw (a .notWoken, a .notQueued) (keep-same (λ w. not (member w (listOf queued))) (λ w. true) ws (λ w m. ap not (a .away w m)))
 
 -- with room for more
 pub and-more : {j k : ℕ} (m : ℕ) → j ≤ k → j ≤ k + m
 and-more m h = omega arith
 
--- without some, by a test that tells them of a list
-pub without-told : (t : ℕ → Bool) (out ws : List ℕ) → ((w : ℕ) → member w ws ≡ true → t w ≡ member w out) → without out ws ≡ keep (λ w. not (t w)) ws
-without-told t out ws told = keep-same (λ w. not (member w out)) (λ w. not (t w)) ws (λ w m. ap not (sym (told w m)))
+pub one-only : (ws : List ℕ) → length ws ≡ 1 → ws ≡ getD ws 0 0 ∷ []
+one-only [] e = absurd (omega arith)
+one-only (w ∷ []) e = refl
+one-only (w ∷ (v ∷ vs)) e = absurd (omega arith)
 
 pub first-only : (ws : List ℕ) → 0 < length ws → take 1 ws ≡ getD ws 0 0 ∷ []
 first-only [] h = absurd (omega arith)

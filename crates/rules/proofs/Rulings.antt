@@ -16,6 +16,7 @@ use Rattle.protocol.specs.Rounds.{member, committed, keeps, givesAtZero, lockRu
 use Rattle.protocol.specs.Steps.{Fate}
 use Rattle.protocol.specs.Turns.{noneLeft}
 use Rattle.protocol.proofs.Bools.{or-false, or-fails}
+use Rattle.protocol.proofs.Counting.{clash}
 use Rattle.format.specs.Fates.{codeAsleep}
 use Rattle.queue.specs.declared.Queue.{Queue}
 use Rattle.queue.specs.List.{listOf, Good, Holds, Below}
@@ -23,15 +24,16 @@ use Rattle.rules.specs.declared.ruling.Uncommitted.{Uncommitted}
 use Rattle.rules.specs.declared.ruling.Goes.{Goes}
 use Rattle.rules.specs.declared.ruling.Ruling.{Ruling}
 use Rattle.rules.specs.Codes.{fateCode, conditionCode, barrierCode, uncommittedOf, goesOf, syncOf}
-use Rattle.rules.specs.Rules.{found, keyOf, sleepersAt, calledBy, Coded, AtZero, Commits, Coherent, Means, Starting, Started, Ruled}
+use Rattle.rules.specs.Rules.{found, sleepersAt, calledBy, Coded, AtZero, Commits, Alone, Coherent, Means, Starting, Started, Ruled}
 use Rattle.rules.proofs.Codes.{code-asleep}
 
 -- a ruling that wakes nobody
-pub wakes-nobody : {held key called : ℕ} {waiting : Queue} {fates : List ℕ} {r : Ruling} → r .wakes ≡ false → Coded (r .goes) → r .held ≤ held + 1
+pub wakes-nobody : {held number called : ℕ} {waiting : Queue} {fates : List ℕ} {r : Ruling} → r .wakes ≡ false → Coded (r .goes) → r .held ≤ held + 1
     → Good (r .queued) → Below 8 (listOf (r .queued)) → length (listOf (r .queued)) ≤ length (listOf waiting) + called
-    → (r .joins ≡ true → (w : ℕ) → member w (listOf waiting) ≡ true → eqb (getD fates w 0) key ≡ member w (listOf (r .queued)))
-    → Coherent held key called waiting fates r
-wakes-nobody w e h good below few all =
+    → (r .joins ≡ true → listOf (r .queued) ≡ found fates (listOf waiting) (barrierCode number))
+    → (r .starts ≡ true → Alone (r .wakes) (r .joins) (r .queued) (listOf waiting))
+    → Coherent held number called waiting fates r
+wakes-nobody w e h good below few all alone =
     record {
       coded = e;
       some = λ y. let z : true ≡ false = sym y ∙ w in absurd (let n : _≡_ {A = ℕ} 0 1 = cc in omega arith);
@@ -41,15 +43,17 @@ wakes-nobody w e h good below few all =
       below = below;
       few = few;
       all = all;
+      alone = alone;
     }
 
 -- a ruling that moves nobody but the holder
-pub calm : {held key called : ℕ} {waiting : Queue} {fates : List ℕ} {r : Ruling} → r .wakes ≡ false → r .joins ≡ false → Coded (r .goes) → r .held ≤ held + 1
-    → Holds (r .queued) [] → Coherent held key called waiting fates r
+pub calm : {held number called : ℕ} {waiting : Queue} {fates : List ℕ} {r : Ruling} → r .wakes ≡ false → r .joins ≡ false → r .starts ≡ false → Coded (r .goes)
+    → r .held ≤ held + 1 → Holds (r .queued) [] → Coherent held number called waiting fates r
 unfolding member
-calm {held} {key} {called} {waiting} {fates} {r} w j e h none =
+calm {held} {number} {called} {waiting} {fates} {r} w j st e h none =
     wakes-nobody w e h (none .good) (rw (none .list) (λ v m. absurd (let n : _≡_ {A = ℕ} 0 1 = cc in omega arith))) (rw (none .list) (omega arith))
-    (λ y. let z : true ≡ false = sym y ∙ j in absurd (let n : _≡_ {A = ℕ} 0 1 = cc in omega arith))
+    (λ y. clash (sym j ∙ y))
+    (λ y. clash (sym st ∙ y))
 
 -- a lock's and an unlock's ruling by the numbers in it, however the code works them out
 pub locks : (held rises outcome : ℕ) {count : ℕ} {bytes : Uncommitted} → Commits count bytes → count ≡ held → rises ≡ held + 1 → outcome ≡ held + 1
@@ -80,15 +84,21 @@ pub starts-one : (fates : List ℕ) (target held : ℕ) {qs : List ℕ} → qs �
     → rounds.ruling committed held keeps [] qs 1 ≡ startRule target f held
 starts-one fates target held q f e y = rw (q, sym (code-asleep f) ∙ eq-eqb (fateCode f) codeAsleep (sym e ∙ y))
 
-pub start-coherent : {target held : ℕ} {waiting : Queue} {fates : List ℕ} {r : Ruling} → Starting target waiting fates → Holds (r .queued) (target ∷ [])
-    → r .wakes ≡ false → r .joins ≡ true → Coded (r .goes) → r .held ≤ held + 1 → getD fates target 0 ≡ codeAsleep
-    → Coherent held codeAsleep (sleepersAt fates target) waiting fates r
+pub start-coherent : {target held : ℕ} (number : ℕ) {waiting : Queue} {fates : List ℕ} {r : Ruling} → Starting target waiting fates → Holds (r .queued) (target ∷ [])
+    → r .wakes ≡ false → r .joins ≡ false → Coded (r .goes) → r .held ≤ held + 1 → getD fates target 0 ≡ codeAsleep
+    → Coherent held number (sleepersAt fates target) waiting fates r
 unfolding member
-start-coherent {target} {held} {waiting} {fates} {r} s one w j e h y =
+start-coherent {target} {held} number {waiting} {fates} {r} s one w j e h y =
     wakes-nobody w e h (one .good)
     (rw (one .list) (λ v m. alone v m))
     (rw (one .list, eq-eqb (getD fates target 0) codeAsleep y) (omega arith))
-    (λ z v m. s .awake v m ∙ sym (ap (λ (vs : List ℕ). member v vs) (one .list) ∙ or-fails (eqb v target) refl ∙ other v m))
+    (λ z. clash (sym j ∙ z))
+    (λ z. record {
+      notWoken = w;
+      notQueued = j;
+      one = ap length (one .list);
+      away = λ v m. ap (λ (vs : List ℕ). member v vs) (one .list) ∙ or-fails (eqb v target) refl ∙ other v m;
+    })
   where
     alone : (v : ℕ) → eqb v target || false ≡ true → v < 8
     alone v m = let same = eqb-true v target (sym (or-false (eqb v target)) ∙ m) in let n = s .named in omega arith
@@ -99,19 +109,19 @@ start-coherent {target} {held} {waiting} {fates} {r} s one w j e h y =
 
 -- the rule by its op
 module _ {op number held : ℕ} {sizes : List ℕ} {waiting : Queue} {fates : List ℕ} {r : Ruling} where
-  pub by-lock : op ≡ 32 → Means held (keyOf op number) (calledBy op number fates) waiting fates r (lockRule held) → Ruled op number held sizes waiting fates r
+  pub by-lock : op ≡ 32 → Means held number (calledBy op number fates) waiting fates r (lockRule held) → Ruled op number held sizes waiting fates r
   unfolding syncOf ruleOf
   by-lock e m = record { same = λ plan queue fate met at fit named. rw e (m .same); sound = m .sound }
 
-  pub by-unlock : op ≡ 33 → Means held (keyOf op number) (calledBy op number fates) waiting fates r (unlockRule held) → Ruled op number held sizes waiting fates r
+  pub by-unlock : op ≡ 33 → Means held number (calledBy op number fates) waiting fates r (unlockRule held) → Ruled op number held sizes waiting fates r
   unfolding syncOf ruleOf
   by-unlock e m = record { same = λ plan queue fate met at fit named. rw e (m .same); sound = m .sound }
 
-  pub by-wait : op ≡ 34 → Means held (keyOf op number) (calledBy op number fates) waiting fates r (waitRule number held) → Ruled op number held sizes waiting fates r
+  pub by-wait : op ≡ 34 → Means held number (calledBy op number fates) waiting fates r (waitRule number held) → Ruled op number held sizes waiting fates r
   unfolding syncOf ruleOf
   by-wait e m = record { same = λ plan queue fate met at fit named. rw e (m .same); sound = m .sound }
 
-  pub by-signal : 35 ≤ op → op ≤ 36 → Means held (keyOf op number) (calledBy op number fates) waiting fates r (signalRule (found fates (listOf waiting) (conditionCode number)) held) → Ruled op number held sizes waiting fates r
+  pub by-signal : 35 ≤ op → op ≤ 36 → Means held number (calledBy op number fates) waiting fates r (signalRule (found fates (listOf waiting) (conditionCode number)) held) → Ruled op number held sizes waiting fates r
   unfolding syncOf ruleOf
   by-signal low high m =
       record {
@@ -123,28 +133,20 @@ module _ {op number held : ℕ} {sizes : List ℕ} {waiting : Queue} {fates : Li
       }
 
   pub by-barrier : op ≡ opBarrier
-      → ((called : ℕ) → Means held (barrierCode number) called waiting fates r (barrierRule number (getD sizes number 0) (found fates (listOf waiting) (barrierCode number)) held))
+      → Means held number (calledBy op number fates) waiting fates r (barrierRule number (getD sizes number 0) (found fates (listOf waiting) (barrierCode number)) held)
       → Ruled op number held sizes waiting fates r
   unfolding syncOf ruleOf
-  by-barrier e m =
-      let key : keyOf op number ≡ barrierCode number = ap (λ (o : ℕ). keyOf o number) e in
-      record {
-        same = λ plan queue fate met at fit named. rw (e, ← at e, fit e) (m 0 .same);
-        sound = subst⁻¹ (λ (k : ℕ). Coherent held k (calledBy op number fates) waiting fates r) key (m (calledBy op number fates) .sound);
-      }
+  by-barrier e m = record { same = λ plan queue fate met at fit named. rw (e, ← at e, fit e) (m .same); sound = m .sound }
 
-  pub by-exit : op ≡ 38 → Means held (keyOf op number) (calledBy op number fates) waiting fates r (exitRule held) → Ruled op number held sizes waiting fates r
+  pub by-exit : op ≡ 38 → Means held number (calledBy op number fates) waiting fates r (exitRule held) → Ruled op number held sizes waiting fates r
   unfolding syncOf ruleOf
   by-exit e m = record { same = λ plan queue fate met at fit named. rw e (m .same); sound = m .sound }
 
   pub by-start : op ≡ opStart → Started number held waiting fates r → Ruled op number held sizes waiting fates r
   unfolding syncOf ruleOf
   by-start e m =
-      let key : keyOf op number ≡ codeAsleep = ap (λ (o : ℕ). keyOf o number) e in
       let called : calledBy op number fates ≡ sleepersAt fates number = ap (λ (o : ℕ). calledBy o number fates) e in
       record {
         same = λ plan queue fate met at fit named. rw e (m .same (fate number) (named e));
-        sound =
-            subst⁻¹ (λ (k : ℕ). Coherent held k (calledBy op number fates) waiting fates r) key
-            (subst⁻¹ (λ (k : ℕ). Coherent held codeAsleep k waiting fates r) called (m .sound));
+        sound = subst⁻¹ (λ (k : ℕ). Coherent held number k waiting fates r) called (m .sound number);
       }

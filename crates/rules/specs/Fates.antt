@@ -1,6 +1,6 @@
 -- What settling the fates takes and ensures.
 use Prim.Native.Nat.{ℕ, _<_}
-use mathlib.Core.Bool.{Bool, true, false, cond}
+use mathlib.Core.Bool.{Bool, true, false, cond, _||_}
 use mathlib.Core.Path.{_≡_}
 use mathlib.Core.List.{List, _++_}
 use lib.Dec.{eqb}
@@ -13,11 +13,12 @@ use Rattle.rules.specs.declared.ruling.Ruling.{Ruling}
 use Rattle.rules.specs.Codes.{codeAfter}
 use Rattle.rules.specs.Rules.{wokenOf, joinedOf}
 
-pub record Freeing (wakes joins : Bool) (queued : Queue) : Type 0 where
+pub record Freeing (wakes joins starts : Bool) (queued : Queue) : Type 0 where
   pub good : Good queued
   pub below : Below workersLimit (listOf queued)
   pub some : wakes ≡ true → 0 < length (listOf queued)
   pub apart : wakes ≡ true → joins ≡ false
+  pub one : starts ≡ true → (wakes ≡ false) × (length (listOf queued) ≡ 1)
 
 -- the holder has its new fate, those whom the step moves are going, and the others stay as they were
 pub record FatesSettled (before : List ℕ) (r : Ruling) (h : ℕ) (after : List ℕ) : Type 0 where
@@ -25,4 +26,4 @@ pub record FatesSettled (before : List ℕ) (r : Ruling) (h : ℕ) (after : List
   pub code :
       (w : ℕ)
       → getD after w 0
-      ≡ cond (eqb w h) (codeAfter (r .goes)) (cond (member w (wokenOf (r .wakes) (listOf (r .queued)) ++ joinedOf (r .joins) (listOf (r .queued)))) 0 (getD before w 0))
+      ≡ cond (eqb w h) (codeAfter (r .goes)) (cond (member w (wokenOf (r .wakes) (listOf (r .queued)) ++ joinedOf (r .joins || r .starts) (listOf (r .queued)))) 0 (getD before w 0))

@@ -3,15 +3,15 @@ use Prim.Native.Nat.{ℕ, _+_, _≤_, _<_}
 use mathlib.Core.Bool.{Bool, true, false}
 use mathlib.Core.Path.{_≡_}
 use mathlib.Core.List.{List, _++_}
-use lib.Dec.{eqb}
-use lib.ListN.{length, getD, drop}
+use lib.ListN.{length, drop}
 use Rattle.protocol.specs.Format.{workersLimit}
 use Rattle.protocol.specs.Rounds as rounds
-use Rattle.protocol.specs.Rounds.{member, staysIn, joinsNext, joinsWaiting, without}
+use Rattle.protocol.specs.Rounds.{staysIn, joinsNext, joinsWaiting, without}
 use Rattle.queue.specs.declared.Queue.{Queue}
 use Rattle.queue.specs.List.{listOf, Good, Holds, Below}
 use Rattle.rules.specs.declared.lists.Lists.{Lists}
 use Rattle.rules.specs.declared.ruling.Ruling.{Ruling}
+use Rattle.rules.specs.Rules.{found, Alone}
 
 -- the list of a round, whose first is the holder, with room for a woken worker
 pub record Relisting (list : Queue) (wakes : Bool) (queued : Queue) (h : ℕ) : Type 0 where
@@ -21,11 +21,11 @@ pub record Relisting (list : Queue) (wakes : Bool) (queued : Queue) (h : ℕ) : 
   pub fits : length (listOf list) + length (listOf queued) ≤ workersLimit
   pub some : wakes ≡ true → 0 < length (listOf queued)
 
--- where the queued workers join the next list, those of them who wait are those with the key as their fate's code
+-- where the queued workers join the next list, they are those who wait with the key as their fate's code
 pub record Parting (waiting : Queue) (wakes joins : Bool) (queued : Queue) (fates : List ℕ) (code : ℕ) : Type 0 where
   pub good : Good waiting
   pub below : Below workersLimit (listOf waiting)
-  pub queue : joins ≡ true → (w : ℕ) → member w (listOf waiting) ≡ true → eqb (getD fates w 0) code ≡ member w (listOf queued)
+  pub queue : joins ≡ true → listOf queued ≡ found fates (listOf waiting) code
   pub some : wakes ≡ true → 0 < length (listOf queued)
   pub apart : wakes ≡ true → joins ≡ false
 
@@ -38,6 +38,7 @@ pub record ListsMoving (lists : Lists) (r : Ruling) (h : ℕ) (fates : List ℕ)
   pub held : 0 < length (listOf (lists .list))
   pub total : length (listOf (lists .list)) + length (listOf (lists .next)) + length (listOf (lists .waiting)) ≤ workersLimit
   pub room : length (listOf (lists .list)) + length (listOf (lists .next)) + length (listOf (r .queued)) ≤ workersLimit
+  pub alone : r .starts ≡ true → Alone (r .wakes) (r .joins) (r .queued) (listOf (lists .waiting))
   pub leaving : Parting (lists .waiting) (r .wakes) (r .joins) (r .queued) fates code
 
 -- the lists after a ruling, as `apply` has them

@@ -1,6 +1,6 @@
 -- What a ruling of the code stands for, and what `rule` takes and ensures.
 use Prim.Native.Nat.{ℕ, _+_, _≤_, _<_}
-use mathlib.Core.Bool.{Bool, true, false, cond}
+use mathlib.Core.Bool.{Bool, true, false, cond, _||_}
 use mathlib.Core.Path.{_≡_}
 use mathlib.Core.List.{List, []}
 use lib.Dec.{eqb}
@@ -28,7 +28,8 @@ joinedOf joins queued = cond joins queued []
 
 abbrev pub rulingOf : Ruling → rounds.Ruling
 rulingOf r =
-    rounds.ruling (uncommittedOf (r .bytes)) (r .held) (goesOf (r .goes)) (wokenOf (r .wakes) (listOf (r .queued))) (joinedOf (r .joins) (listOf (r .queued))) (r .outcome)
+    rounds.ruling (uncommittedOf (r .bytes)) (r .held) (goesOf (r .goes)) (wokenOf (r .wakes) (listOf (r .queued)))
+    (joinedOf (r .joins || r .starts) (listOf (r .queued))) (r .outcome)
 
 -- those of a list whose fate's code is the key
 abbrev pub found : List ℕ → List ℕ → ℕ → List ℕ
@@ -47,10 +48,6 @@ pub record AtZero (held : ℕ) (goes : Goes) : Type 0 where
 pub record Commits (held : ℕ) (bytes : Uncommitted) : Type 0 where
   pub same : uncommittedOf bytes ≡ commitsAtZero held
 
--- the code of the fates of those whom a step may send to the next list: for a start that of sleepers, else that of those at its barrier
-abbrev pub keyOf : ℕ → ℕ → ℕ
-keyOf op number = cond (eqb op opStart) codeAsleep (barrierCode number)
-
 -- how many sleepers a step starts: one, if it is a start and its worker sleeps
 abbrev pub sleepersAt : List ℕ → ℕ → ℕ
 sleepersAt fates w = cond (eqb (getD fates w 0) codeAsleep) 1 0
@@ -58,8 +55,15 @@ sleepersAt fates w = cond (eqb (getD fates w 0) codeAsleep) 1 0
 abbrev pub calledBy : ℕ → ℕ → List ℕ → ℕ
 calledBy op number fates = cond (eqb op opStart) (sleepersAt fates number) 0
 
--- what holds of every ruling, by a holder of so many locks at a step with this key that starts so many sleepers, where these wait
-pub record Coherent (held key called : ℕ) (waiting : Queue) (fates : List ℕ) (r : Ruling) : Type 0 where
+-- a sleeper that a ruling starts is the one worker that it moves, and does not wait
+pub record Alone (wakes joins : Bool) (queued : Queue) (waiting : List ℕ) : Type 0 where
+  pub notWoken : wakes ≡ false
+  pub notQueued : joins ≡ false
+  pub one : length (listOf queued) ≡ 1
+  pub away : (w : ℕ) → member w waiting ≡ true → member w (listOf queued) ≡ false
+
+-- what holds of every ruling, by a holder of so many locks at a step with this number that starts so many sleepers, where these wait
+pub record Coherent (held number called : ℕ) (waiting : Queue) (fates : List ℕ) (r : Ruling) : Type 0 where
   pub coded : Coded (r .goes)
   pub some : r .wakes ≡ true → 0 < length (listOf (r .queued))
   pub apart : r .wakes ≡ true → r .joins ≡ false
@@ -67,18 +71,18 @@ pub record Coherent (held key called : ℕ) (waiting : Queue) (fates : List ℕ)
   pub good : Good (r .queued)
   pub below : Below workersLimit (listOf (r .queued))
   pub few : length (listOf (r .queued)) ≤ length (listOf waiting) + called
-  -- of those who wait, those with the key join the next list
-  pub all : r .joins ≡ true → (w : ℕ) → member w (listOf waiting) ≡ true → eqb (getD fates w 0) key ≡ member w (listOf (r .queued))
+  pub all : r .joins ≡ true → listOf (r .queued) ≡ found fates (listOf waiting) (barrierCode number)
+  pub alone : r .starts ≡ true → Alone (r .wakes) (r .joins) (r .queued) (listOf waiting)
 
 -- a ruling of the code is that of the definitions
-pub record Means (held key called : ℕ) (waiting : Queue) (fates : List ℕ) (r : Ruling) (is : rounds.Ruling) : Type 0 where
+pub record Means (held number called : ℕ) (waiting : Queue) (fates : List ℕ) (r : Ruling) (is : rounds.Ruling) : Type 0 where
   pub same : rulingOf r ≡ is
-  pub sound : Coherent held key called waiting fates r
+  pub sound : Coherent held number called waiting fates r
 
 -- a ruling of the code is that of a start of this worker, whatever fate it is that its code shows
 pub record Started (target held : ℕ) (waiting : Queue) (fates : List ℕ) (r : Ruling) : Type 0 where
   pub same : (f : Fate) → getD fates target 0 ≡ fateCode f → rulingOf r ≡ startRule target f held
-  pub sound : Coherent held codeAsleep (sleepersAt fates target) waiting fates r
+  pub sound : (number : ℕ) → Coherent held number (sleepersAt fates target) waiting fates r
 
 -- those who wait with this code as their fate, asked for by a barrier of this size: nobody, where all who wait are too few for it
 pub record Met (fates : List ℕ) (waiting : Queue) (code size : ℕ) (q : Queue) : Type 0 where
@@ -113,4 +117,4 @@ pub record Ruled (op number held : ℕ) (sizes : List ℕ) (waiting : Queue) (fa
       → (op ≡ opBarrier → getD (plan .sizes) number 0 ≡ getD sizes number 0)
       → (op ≡ opStart → getD fates number 0 ≡ fateCode (fate number))
       → rulingOf r ≡ ruleOf plan queue fate held (syncOf op number)
-  pub sound : Coherent held (keyOf op number) (calledBy op number fates) waiting fates r
+  pub sound : Coherent held number (calledBy op number fates) waiting fates r

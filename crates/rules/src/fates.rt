@@ -4,6 +4,7 @@ use crate::ruling::Ruling;
 use format::fates::GOING;
 use format::limits::WORKERS_LIMIT;
 use queue::Queue;
+ghost use mathlib.Core.Bool.{_||_};
 ghost use mathlib.Core.Path.{_≡_};
 ghost use mathlib.Core.List.{_++_};
 ghost use Prim.Native.Nat.{_<_};
@@ -38,12 +39,23 @@ fn free(fates: &mut [u64; WORKERS_LIMIT], queued: Queue)
     }
 }
 
-fn free_moved(fates: &mut [u64; WORKERS_LIMIT], wakes: bool, joins: bool, queued: Queue)
-    requires { ⌜ Freeing wakes joins queued ⌝ }
-    ensures { λ r. ⌜ now (fates .exit) ≡ setAll 0 (wokenOf wakes (listOf queued) ++ joinedOf joins (listOf queued)) (now (fates .entry)) ⌝ }
+fn free_moved(
+    fates: &mut [u64; WORKERS_LIMIT],
+    wakes: bool,
+    joins: bool,
+    starts: bool,
+    queued: Queue,
+)
+    requires { ⌜ Freeing wakes joins starts queued ⌝ }
+    ensures { λ r. ⌜ now (fates .exit) ≡ setAll 0 (wokenOf wakes (listOf queued) ++ joinedOf (joins || starts) (listOf queued)) (now (fates .entry)) ⌝ }
 {
     if joins {
         free(fates, queued);
+        return;
+    }
+    if starts {
+        let w = queued.first() as usize;
+        fates[w] = GOING;
         return;
     }
     if wakes {
@@ -52,14 +64,14 @@ fn free_moved(fates: &mut [u64; WORKERS_LIMIT], wakes: bool, joins: bool, queued
     }
 }
 
-// Those whom the step moves wait no more, and the holder h has its new fate.
+// Those whom the step moves wait or sleep no more, and the holder h has its new fate.
 pub fn settle_fates(fates: &mut [u64; WORKERS_LIMIT], r: Ruling, h: usize)
-    requires { ⌜ (length (now fates) ≡ workersLimit) × (h < workersLimit) × Freeing (r .wakes) (r .joins) (r .queued) ⌝ }
+    requires { ⌜ (length (now fates) ≡ workersLimit) × (h < workersLimit) × Freeing (r .wakes) (r .joins) (r .starts) (r .queued) ⌝ }
     ensures { λ u. ⌜ FatesSettled (now (fates .entry)) r h (now (fates .exit)) ⌝ }
 {
     let queued = r.queued;
     let goes = r.goes;
     let code = code_after(goes);
-    free_moved(fates, r.wakes, r.joins, queued);
+    free_moved(fates, r.wakes, r.joins, r.starts, queued);
     fates[h] = code;
 }

@@ -4,7 +4,7 @@ use crate::ruling::Ruling;
 use format::fates::ON_CONDITION;
 use format::limits::WORKERS_LIMIT;
 use queue::Queue;
-ghost use mathlib.Core.Bool.{true};
+ghost use mathlib.Core.Bool.{true, _||_};
 ghost use mathlib.Core.Path.{_≡_};
 ghost use mathlib.Core.List.{_++_};
 ghost use Prim.Native.Nat.{_+_, _≤_, _<_};
@@ -46,22 +46,32 @@ pub fn list_after(list: Queue, goes: Goes, wakes: bool, queued: Queue, h: u64) -
     }
 }
 
-// The queued workers behind.
-fn join(next: Queue, joins: bool, queued: Queue) -> Queue
+// The queued workers or the sleeper behind.
+fn join(next: Queue, joins: bool, starts: bool, queued: Queue) -> Queue
     requires { ⌜ Good next × Good queued × (length (listOf next) + length (listOf queued) ≤ workersLimit) ⌝ }
-    ensures { λ q. ⌜ Holds q (listOf next ++ joinedOf joins (listOf queued)) ⌝ }
+    ensures { λ q. ⌜ Holds q (listOf next ++ joinedOf (joins || starts) (listOf queued)) ⌝ }
 {
     if joins {
+        return next.append(queued);
+    }
+    if starts {
         return next.append(queued);
     }
     next
 }
 
-pub fn next_after(next: Queue, joins: bool, queued: Queue, goes: Goes, h: u64) -> Queue
+pub fn next_after(
+    next: Queue,
+    joins: bool,
+    starts: bool,
+    queued: Queue,
+    goes: Goes,
+    h: u64,
+) -> Queue
     requires { ⌜ Good next × Good queued × (length (listOf next) + length (listOf queued) < workersLimit) × (h < 16) ⌝ }
-    ensures { λ q. ⌜ Holds q (listOf next ++ (joinedOf joins (listOf queued) ++ joinsNext (goesOf goes) h)) ⌝ }
+    ensures { λ q. ⌜ Holds q (listOf next ++ (joinedOf (joins || starts) (listOf queued) ++ joinsNext (goesOf goes) h)) ⌝ }
 {
-    let joined = join(next, joins, queued);
+    let joined = join(next, joins, starts, queued);
     match goes {
         Goes::Keeps => joined,
         Goes::Gives => joined.append(Queue::one(h)),
@@ -119,7 +129,7 @@ pub fn moved(lists: Lists, r: Ruling, h: u64, fates: &[u64; WORKERS_LIMIT], code
     let later = lists.next;
     let waits = lists.waiting;
     let list = list_after(old, goes, wakes, queued, h);
-    let next = next_after(later, joins, queued, goes, h);
+    let next = next_after(later, joins, r.starts, queued, goes, h);
     let left = stay(waits, wakes, joins, queued, fates, code);
     let waiting = wait_last(left, goes, h);
     Lists {

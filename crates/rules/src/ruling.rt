@@ -9,14 +9,13 @@ use format::limits::WORKERS_LIMIT;
 use format::ops;
 use queue::Queue;
 ghost use mathlib.Core.List.{List};
-ghost use mathlib.Core.Path.{_≡_};
 ghost use Prim.Native.Nat.{ℕ, _≤_};
 ghost use Rattle.protocol.specs.Format.{workersLimit, stepsLimit, lockLimit};
 ghost use Rattle.protocol.specs.Rounds.{failure, lockRule, unlockRule, waitRule, signalRule, barrierRule, exitRule};
 ghost use Rattle.queue.specs.List.{listOf, Good, Below};
 ghost use Rattle.queue.specs.declared.Queue.{Queue};
 ghost use Rattle.rules.specs.Codes.{conditionCode, barrierCode};
-ghost use Rattle.rules.specs.Rules.{found, keyOf, AtZero, Commits, Met, Starting, Started, Asking, Means, Ruled};
+ghost use Rattle.rules.specs.Rules.{found, AtZero, Commits, Met, Starting, Started, Asking, Means, Ruled};
 
 // Outcomes that name neither a worker nor a count.
 pub const OUTCOME_QUEUED: u8 = 0;
@@ -43,20 +42,22 @@ pub enum Goes {
     Leaves(u64),
 }
 
-// queued: those who wait where the step says, if its rule asks for them, or the sleeper that it starts. wakes: the first of them is woken; joins: all of them
-// join the next list.
+// queued: those who wait where the step says, if its rule asks for them, or the sleeper that it starts. wakes: the first of them is woken;
+// joins: all of them join the next list; starts: the sleeper does. A start has a mark of its own: where it shared that of a full barrier, the
+// compiler no longer told the other steps apart by it, and they took up to a third more instructions.
 pub struct Ruling {
     pub bytes: Uncommitted,
     pub held: u64,
     pub goes: Goes,
     pub wakes: bool,
     pub joins: bool,
+    pub starts: bool,
     pub queued: Queue,
     pub outcome: u8,
 }
 
 fn failed(held: u64) -> Ruling
-    ensures { λ r. ⌜ ((key called : ℕ) (waiting : Queue) (fates : List ℕ) → Means held key called waiting fates r (failure held)) ⌝ }
+    ensures { λ r. ⌜ ((number called : ℕ) (waiting : Queue) (fates : List ℕ) → Means held number called waiting fates r (failure held)) ⌝ }
 {
     let none = Queue::empty();
     Ruling {
@@ -65,6 +66,7 @@ fn failed(held: u64) -> Ruling
         goes: Goes::Leaves(FAILED),
         wakes: false,
         joins: false,
+        starts: false,
         queued: none,
         outcome: OUTCOME_FAILED,
     }
@@ -88,7 +90,7 @@ fn commits_at_zero(held: u64) -> Uncommitted
 
 fn lock(held: u64) -> Ruling
     requires { ⌜ held ≤ stepsLimit ⌝ }
-    ensures { λ r. ⌜ ((key called : ℕ) (waiting : Queue) (fates : List ℕ) → Means held key called waiting fates r (lockRule held)) ⌝ }
+    ensures { λ r. ⌜ ((number called : ℕ) (waiting : Queue) (fates : List ℕ) → Means held number called waiting fates r (lockRule held)) ⌝ }
 {
     let none = Queue::empty();
     let bytes = commits_at_zero(held);
@@ -98,6 +100,7 @@ fn lock(held: u64) -> Ruling
         goes: Goes::Keeps,
         wakes: false,
         joins: false,
+        starts: false,
         queued: none,
         outcome: (held + 1) as u8,
     }
@@ -105,7 +108,7 @@ fn lock(held: u64) -> Ruling
 
 fn unlock(held: u64) -> Ruling
     requires { ⌜ held ≤ stepsLimit ⌝ }
-    ensures { λ r. ⌜ ((key called : ℕ) (waiting : Queue) (fates : List ℕ) → Means held key called waiting fates r (unlockRule held)) ⌝ }
+    ensures { λ r. ⌜ ((number called : ℕ) (waiting : Queue) (fates : List ℕ) → Means held number called waiting fates r (unlockRule held)) ⌝ }
 {
     if held == 0 {
         return failed(held);
@@ -120,6 +123,7 @@ fn unlock(held: u64) -> Ruling
         goes,
         wakes: false,
         joins: false,
+        starts: false,
         queued: none,
         outcome: left as u8,
     }
@@ -127,7 +131,7 @@ fn unlock(held: u64) -> Ruling
 
 fn wait(condition: u64, count: u64) -> Ruling
     requires { ⌜ condition ≤ lockLimit ⌝ }
-    ensures { λ r. ⌜ ((key called : ℕ) (waiting : Queue) (fates : List ℕ) → Means count key called waiting fates r (waitRule condition count)) ⌝ }
+    ensures { λ r. ⌜ ((number called : ℕ) (waiting : Queue) (fates : List ℕ) → Means count number called waiting fates r (waitRule condition count)) ⌝ }
 {
     if count == 0 {
         return failed(count);
@@ -139,6 +143,7 @@ fn wait(condition: u64, count: u64) -> Ruling
         goes: Goes::Leaves(ON_CONDITION + 2 * condition),
         wakes: false,
         joins: false,
+        starts: false,
         queued: none,
         outcome: OUTCOME_NONE,
     }
@@ -147,7 +152,7 @@ fn wait(condition: u64, count: u64) -> Ruling
 // Signal and broadcast.
 fn signal(condition: u64, held: u64, waiting: Queue, fates: &[u64; WORKERS_LIMIT]) -> Ruling
     requires { ⌜ (condition ≤ lockLimit) × Good waiting × Below workersLimit (listOf waiting) ⌝ }
-    ensures { λ r. ⌜ ((key called : ℕ) → Means held key called waiting (now (fates .entry)) r (signalRule (found (now (fates .entry)) (listOf waiting) (conditionCode condition)) held)) ⌝ }
+    ensures { λ r. ⌜ ((number called : ℕ) → Means held number called waiting (now (fates .entry)) r (signalRule (found (now (fates .entry)) (listOf waiting) (conditionCode condition)) held)) ⌝ }
 {
     let goes = gives_at_zero(held);
     let queued = waiting.select(fates, ON_CONDITION + 2 * condition);
@@ -158,6 +163,7 @@ fn signal(condition: u64, held: u64, waiting: Queue, fates: &[u64; WORKERS_LIMIT
             goes,
             wakes: false,
             joins: false,
+            starts: false,
             queued,
             outcome: OUTCOME_NONE,
         };
@@ -168,6 +174,7 @@ fn signal(condition: u64, held: u64, waiting: Queue, fates: &[u64; WORKERS_LIMIT
         goes,
         wakes: true,
         joins: false,
+        starts: false,
         queued,
         outcome: queued.first() as u8,
     }
@@ -186,7 +193,7 @@ fn met(b: u64, size: u8, waiting: Queue, fates: &[u64; WORKERS_LIMIT]) -> Queue
 
 fn barrier(b: u64, size: u8, held: u64, waiting: Queue, fates: &[u64; WORKERS_LIMIT]) -> Ruling
     requires { ⌜ (b ≤ lockLimit) × Good waiting × Below workersLimit (listOf waiting) ⌝ }
-    ensures { λ r. ⌜ ((called : ℕ) → Means held (barrierCode b) called waiting (now (fates .entry)) r
+    ensures { λ r. ⌜ ((called : ℕ) → Means held b called waiting (now (fates .entry)) r
         (barrierRule b size (found (now (fates .entry)) (listOf waiting) (barrierCode b)) held)) ⌝ }
 {
     if held != 0 {
@@ -200,6 +207,7 @@ fn barrier(b: u64, size: u8, held: u64, waiting: Queue, fates: &[u64; WORKERS_LI
             goes: Goes::Leaves(AT_BARRIER + 2 * b),
             wakes: false,
             joins: false,
+            starts: false,
             queued,
             outcome: OUTCOME_QUEUED,
         };
@@ -210,13 +218,14 @@ fn barrier(b: u64, size: u8, held: u64, waiting: Queue, fates: &[u64; WORKERS_LI
         goes: Goes::Gives,
         wakes: false,
         joins: true,
+        starts: false,
         queued,
         outcome: size,
     }
 }
 
 fn exit(held: u64) -> Ruling
-    ensures { λ r. ⌜ ((key called : ℕ) (waiting : Queue) (fates : List ℕ) → Means held key called waiting fates r (exitRule held)) ⌝ }
+    ensures { λ r. ⌜ ((number called : ℕ) (waiting : Queue) (fates : List ℕ) → Means held number called waiting fates r (exitRule held)) ⌝ }
 {
     if held != 0 {
         return failed(held);
@@ -228,6 +237,7 @@ fn exit(held: u64) -> Ruling
         goes: Goes::Leaves(EXITED),
         wakes: false,
         joins: false,
+        starts: false,
         queued: none,
         outcome: OUTCOME_NONE,
     }
@@ -246,6 +256,7 @@ fn start(target: usize, held: u64, waiting: Queue, fates: &[u64; WORKERS_LIMIT])
             goes: Goes::Keeps,
             wakes: false,
             joins: false,
+            starts: false,
             queued: none,
             outcome: OUTCOME_AWAKE,
         };
@@ -256,21 +267,11 @@ fn start(target: usize, held: u64, waiting: Queue, fates: &[u64; WORKERS_LIMIT])
         held,
         goes: Goes::Keeps,
         wakes: false,
-        joins: true,
+        joins: false,
+        starts: true,
         queued: sleeper,
         outcome: OUTCOME_STARTED,
     }
-}
-
-// The code of the fates of those whom a step may send to the next list: sleepers, or those who wait at its barrier.
-pub fn key(op: u8, number: u16) -> u64
-    requires { ⌜ number ≤ lockLimit ⌝ }
-    ensures { λ k. ⌜ k ≡ keyOf op number ⌝ }
-{
-    if op == ops::START {
-        return ASLEEP;
-    }
-    AT_BARRIER + 2 * (number as u64)
 }
 
 // The rule of the step with this op and number, where these wait, each where its fate's code in `on` says.

@@ -47,7 +47,7 @@ settle-fates-requires c κs =
     let d = c .before .before .before in
     let p = from-decide d .pre .1 .here in
     let s = d .decide .ensures .ruled .sound in
-    (p .refines .entries .fates, small p, record { good = s .good; below = s .below; some = s .some; apart = s .apart })
+    (p .refines .entries .fates, small p, record { good = s .good; below = s .below; some = s .some; apart = s .apart; one = λ y. (s .alone y .notWoken, s .alone y .one) })
 
 settle-bytes-requires : tie.Need-settle-bytes-requires
 settle-bytes-requires c κs =

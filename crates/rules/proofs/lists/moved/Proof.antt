@@ -9,6 +9,7 @@ use Rattle.protocol.specs.Rounds.{member}
 use Rattle.queue.specs.List.{listOf}
 use Rattle.rules.specs.Rules.{wokenOf, joinedOf}
 use Rattle.queue.proofs.Picked.{length-keep}
+use Rattle.rules.proofs.Moving.{started-waits-not}
 use Rattle.rules.proofs.lists.moved.Statement.{statement}
 use Rattle.rules.proofs.lists.moved.Tie as tie
 
@@ -37,11 +38,16 @@ wait-last-requires c κs = let s = c .before .before .before .before .before .be
     (c .stay .ensures .good, omega (arith, ap length (c .stay .ensures .list), left, s .pre .total, s .pre .held), omega (arith, s .pre .holder))
 
 returns : tie.Need-returns
-returns c = record {
-  list = c .before .before .before .list-after .ensures;
-  next = c .before .before .next-after .ensures;
-  waiting = rw (c .before .stay .ensures .list) at (c .wait-last .ensures);
-}
+returns c =
+    let s = c .before .before .before .before .before .before .before .before in
+    let a = s .args in
+    record {
+      list = c .before .before .before .list-after .ensures;
+      next = c .before .before .next-after .ensures;
+      waiting =
+          rw (started-waits-not (a .r .wakes) (a .r .joins) (a .r .starts) {queued = a .r .queued} (listOf (a .lists .waiting)) (s .pre .alone))
+          (rw (c .before .stay .ensures .list) at (c .wait-last .ensures));
+    }
 
 pub moved-spec : {M : Type 1} → statement M
 moved-spec =

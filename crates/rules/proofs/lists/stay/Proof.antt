@@ -5,7 +5,7 @@ use denote.Ref.{now}
 use lib.Dec.{eqb}
 use lib.ListN.{getD}
 use Rattle.queue.specs.List.{listOf}
-use Rattle.rules.proofs.Moving.{keep-all, without-told, first-only, not-both}
+use Rattle.rules.proofs.Moving.{keep-all, without-kept, first-only, not-both}
 use Rattle.rules.proofs.lists.stay.Statement.{statement}
 use Rattle.rules.proofs.lists.stay.Tie as tie
 
@@ -16,11 +16,7 @@ returns : tie.Need-returns
 returns c = let s = c .before .before in
     let a = s .args in
     let joins = c .before .if1 .taken in
-    rw (
-      not-both (a .wakes) (a .joins) (s .pre .apart) joins,
-      joins,
-      without-told (λ w. eqb (getD (now (a .fates)) w 0) (a .code)) (listOf (a .queued)) (listOf (a .waiting)) (s .pre .queue joins),
-    )
+    rw (not-both (a .wakes) (a .joins) (s .pre .apart) joins, joins, s .pre .queue joins, without-kept (λ w. eqb (getD (now (a .fates)) w 0) (a .code)) (listOf (a .waiting)))
     (c .reject .ensures)
 
 first-requires : tie.Need-first-requires

@@ -4,15 +4,14 @@ use native.Mathlib.Omega.{arith}
 use borrow.Author.Tests.{le-ltb, eq-eqb, ne-eqb}
 use Prim.Native.Nat.{_-_}
 use mathlib.Core.Path.{refl, ap}
-use denote.Ref.{now}
 use lib.ListN.{length}
 use Rattle.protocol.specs.Steps.{atBarrier, waiting}
 use Rattle.protocol.proofs.Counting.{clash}
 use Rattle.queue.specs.List.{listOf}
 use Rattle.queue.proofs.Digits.{length-list}
-use Rattle.rules.specs.Codes.{fateCode, barrierCode}
+use Rattle.rules.specs.Codes.{fateCode}
 use Rattle.rules.proofs.Codes.{fate-code}
-use Rattle.rules.proofs.Moving.{found-member, met-few, met-all, met-below, met-short}
+use Rattle.rules.proofs.Moving.{met-few, met-all, met-below, met-short}
 use Rattle.rules.proofs.Rulings.{wakes-nobody}
 use Rattle.rules.proofs.ruling.barrier.Statement.{statement}
 use Rattle.rules.proofs.ruling.barrier.Tie as tie
@@ -45,7 +44,7 @@ returns-2 c = λ called.
     let fewer = met-few m (omega (arith, length-list (q .result), c .if2 .taken)) in
     record {
       same = rw (eq-eqb (a .held) 0 (s .if1 .left), fewer, fate-code f);
-      sound = wakes-nobody refl (ap fateCode (fate-code f)) (omega arith) (m .good) (met-below m (s .before .pre .2)) (omega (arith, met-short m)) (λ y. clash y);
+      sound = wakes-nobody refl (ap fateCode (fate-code f)) (omega arith) (m .good) (met-below m (s .before .pre .2)) (omega (arith, met-short m)) (λ y. clash y) (λ y. clash y);
     }
 
 returns-3 : tie.Need-returns-3
@@ -57,7 +56,7 @@ returns-3 c = λ called.
     let all = met-all m (omega (arith, length-list (q .result), c .if2 .left)) in
     record {
       same = rw (eq-eqb (a .held) 0 (s .if1 .left), ← all, le-ltb (length (listOf (q .result))) (a .size - 1) (omega (arith, length-list (q .result), c .if2 .left)));
-      sound = wakes-nobody refl refl (omega arith) (m .good) (met-below m (s .before .pre .2)) (omega (arith, met-short m)) (λ y. found-member (now (a .fates)) (listOf (a .waiting)) (barrierCode (a .b)) all);
+      sound = wakes-nobody refl refl (omega arith) (m .good) (met-below m (s .before .pre .2)) (omega (arith, met-short m)) (λ y. all) (λ y. clash y);
     }
 
 pub barrier-spec : {M : Type 1} → statement M

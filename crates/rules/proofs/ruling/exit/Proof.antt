@@ -12,15 +12,15 @@ failed-requires : tie.Need-failed-requires
 failed-requires c κs = search needs
 
 returns : tie.Need-returns
-returns c = λ key called waiting fates. rw (ne-eqb (c .before .before .args .held) 0 (c .before .if1 .taken)) (c .failed .ensures key called waiting fates)
+returns c = λ number called waiting fates. rw (ne-eqb (c .before .before .args .held) 0 (c .before .if1 .taken)) (c .failed .ensures number called waiting fates)
 
 empty-requires : tie.Need-empty-requires
 empty-requires c κs = search needs
 
 returns-2 : tie.Need-returns-2
 unfolding fateOf
-returns-2 c = λ key called waiting fates.
-    record { same = rw (eq-eqb (c .before .before .args .held) 0 (c .before .if1 .left)); sound = calm refl refl refl (omega arith) (c .empty .ensures) }
+returns-2 c = λ number called waiting fates.
+    record { same = rw (eq-eqb (c .before .before .args .held) 0 (c .before .if1 .left)); sound = calm refl refl refl refl (omega arith) (c .empty .ensures) }
 
 pub exit-spec : {M : Type 1} → statement M
 exit-spec = tie.close (tie.spec failed-requires returns empty-requires returns-2)

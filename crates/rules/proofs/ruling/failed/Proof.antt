@@ -12,7 +12,7 @@ empty-requires c κs = search needs
 
 returns : tie.Need-returns
 unfolding fateOf
-returns c = λ key called waiting fates. record { same = refl; sound = calm refl refl refl (omega arith) (c .empty .ensures) }
+returns c = λ number called waiting fates. record { same = refl; sound = calm refl refl refl refl (omega arith) (c .empty .ensures) }
 
 pub failed-spec : {M : Type 1} → statement M
 failed-spec = tie.close (tie.spec empty-requires returns)

@@ -22,10 +22,10 @@ cast-t7 : tie.Need-cast-t7
 cast-t7 c = search needs
 
 returns : tie.Need-returns
-returns c = λ key called waiting fates.
+returns c = λ number called waiting fates.
     record {
       same = locks (c .before .before .args .held) _ _ (c .commits-at-zero .ensures) (omega arith) (omega arith) (omega arith);
-      sound = calm refl refl refl (omega arith) (c .before .empty .ensures);
+      sound = calm refl refl refl refl (omega arith) (c .before .empty .ensures);
     }
 
 pub lock-spec : {M : Type 1} → statement M

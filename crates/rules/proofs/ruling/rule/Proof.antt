@@ -30,7 +30,7 @@ barrier-requires : tie.Need-barrier-requires
 barrier-requires c κs = search needs
 
 returns-4 : tie.Need-returns-4
-returns-4 c = by-barrier (c .before .before .if4 .taken) (c .barrier .ensures)
+returns-4 c = by-barrier (c .before .before .if4 .taken) (c .barrier .ensures _)
 
 exit-requires : tie.Need-exit-requires
 exit-requires c κs = search needs

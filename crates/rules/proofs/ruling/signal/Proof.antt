@@ -42,7 +42,7 @@ asked : (c : tie.After-select)
 asked c = found-by (now (c .before .before .args .fates)) (listOf (c .before .before .args .waiting)) _ (conditionCode (c .before .before .args .condition)) (c .select .ensures .list) (omega arith)
 
 returns : tie.Need-returns
-returns c = λ key called.
+returns c = λ number called.
     let q = c .before .before .select in
     let e₀ = asked (c .before .before) in
     let gives = c .before .before .before .gives-at-zero .ensures in
@@ -52,6 +52,7 @@ returns c = λ key called.
       same = rw (← e₀, wakes-none (listOf (q .result)) (c .before .before .before .before .args .held) e, gives .same);
       sound =
           wakes-nobody refl (gives .coded) (omega arith) (q .ensures .good) (rw e₀ (below-keep 8 _ _ (p .2))) (rw e₀ (and-more called (length-keep _ _)))
+          (λ y. clash y)
           (λ y. clash y);
     }
 
@@ -66,7 +67,7 @@ cast-t12 c =
     omega (arith, c .first .ensures, below-first 8 qs some (rw (q .ensures .list) (below-keep 8 _ _ (c .before .before .before .before .before .pre .2))))
 
 returns-2 : tie.Need-returns-2
-returns-2 c = λ key called.
+returns-2 c = λ number called.
     let q = c .before .before .before .select in
     let e₀ = asked (c .before .before .before) in
     let gives = c .before .before .before .before .gives-at-zero .ensures in
@@ -83,6 +84,7 @@ returns-2 c = λ key called.
         below = rw e₀ (below-keep 8 _ _ (s .pre .2));
         few = rw e₀ (and-more called (length-keep _ _));
         all = λ y. clash y;
+        alone = λ y. clash y;
       };
     }
 

@@ -21,7 +21,7 @@ returns c =
     let s = c .before .before .before in
     record {
       same = λ f e. starts-none (now (s .args .fates)) (s .args .target) (s .args .held) f e (c .before .if1 .taken);
-      sound = calm refl refl refl (omega arith) (c .empty .ensures);
+      sound = λ number. calm refl refl refl refl (omega arith) (c .empty .ensures);
     }
 
 one-requires : tie.Need-one-requires
@@ -33,7 +33,7 @@ returns-2 c =
     let one = c .one .ensures in
     record {
       same = λ f e. starts-one (now (s .args .fates)) (s .args .target) (s .args .held) (one .list) f e (c .before .if1 .left);
-      sound = start-coherent (s .pre) one refl refl refl (omega arith) (c .before .if1 .left);
+      sound = λ number. start-coherent number (s .pre) one refl refl refl (omega arith) (c .before .if1 .left);
     }
 
 pub start-spec : {M : Type 1} → statement M

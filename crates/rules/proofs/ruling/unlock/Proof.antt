@@ -11,7 +11,7 @@ failed-requires : tie.Need-failed-requires
 failed-requires c κs = search needs
 
 returns : tie.Need-returns
-returns c = λ key called waiting fates. rw (eq-eqb (c .before .before .args .held) 0 (c .before .if1 .taken)) (c .failed .ensures key called waiting fates)
+returns c = λ number called waiting fates. rw (eq-eqb (c .before .before .args .held) 0 (c .before .if1 .taken)) (c .failed .ensures number called waiting fates)
 
 empty-requires : tie.Need-empty-requires
 empty-requires c κs = search needs
@@ -29,13 +29,13 @@ cast-t7 : tie.Need-cast-t7
 cast-t7 c = search needs
 
 returns-2 : tie.Need-returns-2
-returns-2 c = λ key called waiting fates.
+returns-2 c = λ number called waiting fates.
     let s = c .before .before .before in
     record {
       same =
           unlocks (s .before .args .held) _ _ (s .if1 .left) (c .before .commits-at-zero .ensures) (c .gives-at-zero .ensures)
           (omega arith) (omega arith) (omega arith) (omega arith);
-      sound = calm refl refl (c .gives-at-zero .ensures .coded) (omega arith) (c .before .before .empty .ensures);
+      sound = calm refl refl refl (c .gives-at-zero .ensures .coded) (omega arith) (c .before .before .empty .ensures);
     }
 
 pub unlock-spec : {M : Type 1} → statement M

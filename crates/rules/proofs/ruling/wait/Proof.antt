@@ -26,12 +26,12 @@ add-t7 : tie.Need-add-t7
 add-t7 c = search needs
 
 returns-2 : tie.Need-returns-2
-returns-2 c = λ key called queue fates.
+returns-2 c = λ number called queue fates.
     let a = c .before .before .args in
     let f = waiting (onCondition (a .condition)) in
     record {
       same = rw (ne-eqb (a .count) 0 (c .before .if1 .left), fate-code f);
-      sound = calm refl refl (ap fateCode (fate-code f)) (omega arith) (c .empty .ensures);
+      sound = calm refl refl refl (ap fateCode (fate-code f)) (omega arith) (c .empty .ensures);
     }
 
 pub wait-spec : {M : Type 1} → statement M
