@@ -70,7 +70,7 @@ start-inv plan memory sound =
     }
   where
     awake : List ℕ
-    awake = keep (λ w. not (sleeps plan w)) (upTo (workersOf plan))
+    awake = start plan memory .list
 
     -- whoever does not exist is not in the list, asleep or not
     none-stands : (w : ℕ) → workersOf plan ≤ w → Stands (workersOf plan) w awake [] [] newWorker

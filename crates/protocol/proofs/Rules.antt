@@ -12,6 +12,7 @@ use Rattle.protocol.specs.Steps.{QueueName, onCondition, atBarrier, Fate
 use Rattle.protocol.specs.Rounds.{State, workerAt, waitsOn, keep, queueOf, fateIn, isAsleep, Uncommitted, committed, lost, Goes, keeps, gives, leaves, ruling, failure, givesAtZero}
 use Rattle.protocol.specs.Rounds.{commitsAtZero, lockRule, unlockRule, waitRule, signalRule, barrierRule, startRule, exitRule, ruleOf, fateAfter, hasArrived}
 use Rattle.protocol.specs.Demands.{occurs}
+use Rattle.protocol.proofs.Bools.{split}
 use Rattle.protocol.proofs.Invariant.{runs, waits, rests, gone, Core}
 use Rattle.protocol.proofs.Counting.{clash, occurs-one, occurs-none, occurs-empty, occurs-first, occurs-kept, occurs-dropped}
 use Rattle.protocol.proofs.OwnMoves.{Listed, inside-steps}
@@ -178,30 +179,27 @@ module _ (plan : Plan) (s : State) (h : ℕ) (c : Core plan s) (l : Listed plan 
             }
 
     starts : (v : ℕ) → Lawful plan s h (startRule v (fateIn s v) (workerAt s h .held))
-    starts v = go (isAsleep (fateIn s v)) refl
-      where
-        k : ℕ
-        k = workerAt s h .held
-
-        go : (b : Bool) → isAsleep (fateIn s v) ≡ b → Lawful plan s h (cond b (ruling committed k keeps [] (v ∷ []) 1) (ruling committed k keeps [] [] 253))
-        go false e = quiet _ _ keeps _ (omega (arith, c .sane h .heldPlace)) (c .sane h .heldSteps) (omega arith) tt
-        go true e =
-            let z : Sleeper (fateIn s v) = sleeper (fateIn s v) e in
-            record {
-              out = λ w. elim (ℕ-discrete w v) [
-                | yes p ↦ rw p (omega (arith, occurs-one v, z .resting))
-                | no p ↦ omega (arith, occurs-none w v p)
-              ];
-              woken = λ w o. absurd (omega (arith, occurs-empty w));
-              joined = λ w o. elim (ℕ-discrete w v) [
-                | yes p ↦ rw p (c .sane v .still (z .still) ∙ z .away)
-                | no p ↦ absurd (omega (arith, occurs-none w v p))
-              ];
-              heldPlace = omega (arith, c .sane h .heldPlace);
-              heldSteps = c .sane h .heldSteps;
-              within = omega arith;
-              leaving = tt;
-            }
+    starts v =
+        split (isAsleep (fateIn s v))
+        (λ e.
+        let z : Sleeper (fateIn s v) = sleeper (fateIn s v) e in
+        rw e
+        record {
+          out = λ w. elim (ℕ-discrete w v) [
+            | yes p ↦ rw p (omega (arith, occurs-one v, z .resting))
+            | no p ↦ omega (arith, occurs-none w v p)
+          ];
+          woken = λ w o. absurd (omega (arith, occurs-empty w));
+          joined = λ w o. elim (ℕ-discrete w v) [
+            | yes p ↦ rw p (c .sane v .still (z .still) ∙ z .away)
+            | no p ↦ absurd (omega (arith, occurs-none w v p))
+          ];
+          heldPlace = omega (arith, c .sane h .heldPlace);
+          heldSteps = c .sane h .heldSteps;
+          within = omega arith;
+          leaving = tt;
+        })
+        (λ e. rw e (quiet _ _ keeps _ (omega (arith, c .sane h .heldPlace)) (c .sane h .heldSteps) (omega arith) tt))
 
 -- a step record's step: the end acts as the exit
 abbrev isReal : Sync → Bool

@@ -248,12 +248,13 @@ fn start(target: usize, held: u64, waiting: Queue, fates: &[u64; WORKERS_LIMIT])
     requires { ⌜ Starting target waiting (now fates) ⌝ }
     ensures { λ r. ⌜ Started target held waiting (now (fates .entry)) r ⌝ }
 {
+    let goes = Goes::Keeps;
     if fates[target] != ASLEEP {
         let none = Queue::empty();
         return Ruling {
             bytes: Uncommitted::Committed,
             held,
-            goes: Goes::Keeps,
+            goes,
             wakes: false,
             joins: false,
             starts: false,
@@ -265,7 +266,7 @@ fn start(target: usize, held: u64, waiting: Queue, fates: &[u64; WORKERS_LIMIT])
     Ruling {
         bytes: Uncommitted::Committed,
         held,
-        goes: Goes::Keeps,
+        goes,
         wakes: false,
         joins: false,
         starts: true,
