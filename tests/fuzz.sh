@@ -4,6 +4,7 @@
 # tests/fuzz.sh replay [ARCHIVE] [INCLUDE]
 # tests/fuzz.sh run SECONDS [ARCHIVE] [INCLUDE]
 # tests/fuzz.sh keep [ARCHIVE] [INCLUDE]    keep those new inputs that add coverage
+# tests/fuzz.sh seeds                       have the simulator write its inputs with sleepers and starts into the kept ones
 #
 # ARCHIVE and INCLUDE as for tests/hosts.sh. Running and keeping need clang
 # with libFuzzer. New inputs go to build/fuzz/found. tests/fuzz/corpus.sum has
@@ -69,8 +70,12 @@ keep)
     "$out/fuzz" -merge=1 -max_len=600 "$kept" "$out/found"
     sum_of_corpus > tests/fuzz/corpus.sum
     ;;
+seeds)
+    tests/fuzz/reference/target/release/seeds "$kept"
+    sum_of_corpus > tests/fuzz/corpus.sum
+    ;;
 *)
-    echo "tests/fuzz.sh replay | run SECONDS | keep"
+    echo "tests/fuzz.sh replay | run SECONDS | keep | seeds"
     exit 2
     ;;
 esac

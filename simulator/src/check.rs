@@ -1,12 +1,13 @@
 //! Reading a plan file: the plan, or the refusal that its author caused.
 //!
 //! Order of the tests: 1 for the whole file; then for each record in turn
-//! 2, 3, 4, 6, 5, 8, 7, 9, just as the paper writes them down; then 10 over
-//! all steps.
+//! 2, 3, 4, 6, 5, 8, 7, 9, just as the paper writes them down, with 14 at the
+//! place of 4; then 10 over all steps. A record is a barrier record, a sleep
+//! record or neither by its op, so no record can be both 4 and 14.
 
 use crate::format::{
-    Record, MOST_FILE_BYTES, MOST_STEPS, MOST_WORKERS, OP_BARRIER_SIZE, OP_PLAN, QUEUES,
-    RECORD_LENGTH, RECORD_MARK,
+    Record, MOST_FILE_BYTES, MOST_STEPS, MOST_WORKERS, OP_BARRIER_SIZE, OP_PLAN, OP_SLEEP,
+    OP_START, QUEUES, RECORD_LENGTH, RECORD_MARK,
 };
 
 /// A refusal's number and its record index, the plan record being 0.
@@ -44,11 +45,12 @@ pub struct Step {
     pub number: u16,
 }
 
-/// An accepted plan: the size of each barrier that has one, and the steps of
-/// each worker.
+/// An accepted plan: the size of each barrier that has one, the workers that
+/// sleep at first, ascending, and the steps of each worker.
 #[derive(Clone, Debug, PartialEq, Eq)]
 pub struct Plan {
     pub barrier_sizes: [Option<u8>; QUEUES],
+    pub sleepers: Vec<u8>,
     pub steps: Vec<Vec<Step>>,
 }
 
@@ -81,8 +83,9 @@ const fn limits(op: u8, register_most: u8, number_least: u16, number_most: u16) 
     }
 }
 
-/// One row per op; an op without a row is unknown.
-const LIMITS: [Limits; 14] = [
+/// One row per op; an op without a row is unknown. The number of a start is a
+/// worker's, so a plan with fewer workers allows less than its row.
+const LIMITS: [Limits; 15] = [
     limits(16, 3, 0, 65_535),
     limits(17, 3, 0, 2_046),
     limits(18, 3, 0, 2_046),
@@ -97,6 +100,7 @@ const LIMITS: [Limits; 14] = [
     limits(36, 0, 0, 7),
     limits(37, 0, 0, 7),
     limits(38, 0, 0, 0),
+    limits(39, 0, 0, 7),
 ];
 
 /// Checks a file.
@@ -123,6 +127,8 @@ struct Reader {
     /// Each worker's steps, each with its record index.
     steps: Vec<Vec<(usize, Step)>>,
     last_barrier: Option<u8>,
+    /// Workers of the sleep records read.
+    sleepers: Vec<u8>,
     /// Worker byte of the last step read.
     last_worker: Option<u8>,
 }
@@ -133,6 +139,7 @@ impl Reader {
             barrier_sizes: [None; QUEUES],
             steps: Vec::new(),
             last_barrier: None,
+            sleepers: Vec::new(),
             last_worker: None,
         }
     }
@@ -148,6 +155,7 @@ impl Reader {
         match record.op {
             OP_PLAN => Err(3),
             OP_BARRIER_SIZE => self.take_barrier(record),
+            OP_SLEEP => self.take_sleeper(record),
             _ => self.take_step(index, record),
         }
     }
@@ -166,10 +174,12 @@ impl Reader {
         Ok(())
     }
 
-    /// A barrier's size. A second record of one barrier is out of order.
+    /// A barrier's size. A second record of one barrier is out of order, and a
+    /// record behind a sleep record is as one behind a step.
     fn take_barrier(&mut self, record: Record) -> Result<(), u8> {
         let ascending = self.last_barrier.is_none_or(|last| last < record.register);
         let fits = self.last_worker.is_none()
+            && self.sleepers.is_empty()
             && ascending
             && record.worker == 0
             && usize::from(record.register) < QUEUES
@@ -179,6 +189,26 @@ impl Reader {
         }
         self.last_barrier = Some(record.register);
         self.barrier_sizes[usize::from(record.register)] = Some(record.number as u8);
+        Ok(())
+    }
+
+    /// A worker that sleeps at first. The first worker never does, and a second
+    /// record of one worker is out of order.
+    fn take_sleeper(&mut self, record: Record) -> Result<(), u8> {
+        let worker = usize::from(record.worker);
+        let ascending = self
+            .sleepers
+            .last()
+            .is_none_or(|&last| last < record.worker);
+        let fits = self.last_worker.is_none()
+            && ascending
+            && (1..self.steps.len()).contains(&worker)
+            && record.register == 0
+            && record.number == 0;
+        if !fits {
+            return Err(14);
+        }
+        self.sleepers.push(record.worker);
         Ok(())
     }
 
@@ -194,7 +224,8 @@ impl Reader {
             return Err(8);
         }
         let numbers = row.number_least..=row.number_most;
-        if record.register > row.register_most || !numbers.contains(&record.number) {
+        let nobody = record.op == OP_START && usize::from(record.number) >= self.steps.len();
+        if record.register > row.register_most || !numbers.contains(&record.number) || nobody {
             return Err(7);
         }
         if record.op == 37 && self.barrier_sizes[usize::from(record.number)].is_none() {
@@ -229,6 +260,7 @@ impl Reader {
         let bare = |own: Vec<(usize, Step)>| own.into_iter().map(|(_, step)| step).collect();
         Plan {
             barrier_sizes: self.barrier_sizes,
+            sleepers: self.sleepers,
             steps: self.steps.into_iter().map(bare).collect(),
         }
     }

@@ -7,7 +7,7 @@ mod meeting;
 
 pub use board::{Board, Row};
 pub use limits::{Limit, Met, ROWS};
-pub use meeting::{Meetings, Move, Sight, Stand};
+pub use meeting::{Found, Hold, Joining, Meetings, Move, Sight, Stand};
 
 use crate::check::Step;
 
@@ -16,7 +16,7 @@ use crate::check::Step;
 pub struct Counts {
     /// Executed steps by op, failed ones included, ends of steps not.
     pub ops: [u64; 32],
-    pub synchronising: [u64; 7],
+    pub synchronising: [u64; 8],
     /// Ends of steps, as op 38.
     pub ends_of_steps: u64,
     pub arrivals: u64,
@@ -30,7 +30,11 @@ pub struct Counts {
     pub border_stores: u64,
     pub passes_at_fence: u64,
     pub passes_without_token: u64,
+    /// Of workers that wait or have left, or stand in the next list.
     pub passes_out_of_list: u64,
+    pub passes_asleep: u64,
+    /// Of workers that were started in this round.
+    pub passes_before_first_round: u64,
     pub passes_behind_end: u64,
     pub limits: Meetings,
 }
@@ -79,8 +83,8 @@ impl Counts {
     }
 }
 
-/// Names of the synchronising ops, 32 to 38.
-const SYNCHRONISING: [&str; 7] = [
+/// Names of the synchronising ops, 32 to 39.
+const SYNCHRONISING: [&str; 8] = [
     "lock",
     "unlock",
     "wait",
@@ -88,6 +92,7 @@ const SYNCHRONISING: [&str; 7] = [
     "broadcast",
     "barrier",
     "exit",
+    "start",
 ];
 
 /// Names of the other ops, 16 to 22.
@@ -126,6 +131,11 @@ impl Counts {
             ("pass at the fence", self.passes_at_fence),
             ("pass without the token", self.passes_without_token),
             ("pass out of the list", self.passes_out_of_list),
+            ("pass of a sleeper", self.passes_asleep),
+            (
+                "pass of a started worker before its first round",
+                self.passes_before_first_round,
+            ),
             ("pass behind the end", self.passes_behind_end),
         ];
         rows.extend(others.map(|(name, count)| (name.to_string(), count)));
@@ -147,6 +157,8 @@ impl Counts {
         self.passes_at_fence += other.passes_at_fence;
         self.passes_without_token += other.passes_without_token;
         self.passes_out_of_list += other.passes_out_of_list;
+        self.passes_asleep += other.passes_asleep;
+        self.passes_before_first_round += other.passes_before_first_round;
         self.passes_behind_end += other.passes_behind_end;
     }
 }

@@ -4,8 +4,9 @@
 pub const RECORD_LENGTH: usize = 7;
 /// The mark that every record of a plan file begins with.
 pub const RECORD_MARK: [u8; 2] = [0x4D, 0x50];
-/// A longer plan file is refused: 1 plan record, 8 barriers, 8 times 128 steps.
-pub const MOST_FILE_BYTES: usize = 7_231;
+/// A longer plan file is refused: 1 plan record, 8 barriers, 7 sleepers, 8 times
+/// 128 steps.
+pub const MOST_FILE_BYTES: usize = 7_280;
 /// Most workers of a plan.
 pub const MOST_WORKERS: usize = 8;
 /// Barriers and conditions are numbered 0 to 7.
@@ -33,8 +34,12 @@ pub const LOG_MARK: [u8; 2] = [0x4D, 0x4C];
 pub const OP_PLAN: u8 = 0;
 /// Op of a barrier record.
 pub const OP_BARRIER_SIZE: u8 = 1;
+/// Op of a sleep record.
+pub const OP_SLEEP: u8 = 2;
 /// Op of an exit, which the end of the steps acts as.
 pub const OP_EXIT: u8 = 38;
+/// Op of a start.
+pub const OP_START: u8 = 39;
 
 /// One record of a plan file, as its bytes say, without any judgement.
 #[derive(Clone, Copy, Debug, PartialEq, Eq)]

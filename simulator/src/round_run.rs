@@ -16,6 +16,9 @@ struct Cell {
     twin: u8,
 }
 
+/// Fate of a worker that nobody has started yet.
+const ASLEEP: u8 = 5;
+
 /// One worker. Fates are the report's bytes.
 struct Seat {
     place: usize,
@@ -61,19 +64,20 @@ pub fn play_rounds(plan: &Plan, memory: &[u8]) -> Outcome {
 
 impl<'a> Rounds<'a> {
     fn start(plan: &'a Plan, memory: &[u8]) -> Self {
-        let seat = |_| Seat {
+        let sleeps = |who: &usize| plan.sleepers.contains(&(*who as u8));
+        let seat = |who| Seat {
             place: 0,
             registers: [0; 4],
             count: 0,
             cells: vec![None; memory.len()],
-            fate: 0,
+            fate: if sleeps(&who) { ASLEEP } else { 0 },
         };
         let count = plan.workers();
         Rounds {
             plan,
             memory: memory.to_vec(),
             seats: (0..count).map(seat).collect(),
-            list: (0..count).collect(),
+            list: (0..count).filter(|who| !sleeps(who)).collect(),
             next: VecDeque::new(),
             conditions: vec![VecDeque::new(); 8],
             barriers: vec![VecDeque::new(); 8],
@@ -255,6 +259,7 @@ impl<'a> Rounds<'a> {
             }
             35 | 36 => (self.wake(number), run_on_if(count > 0)),
             37 => self.meet(who, number),
+            39 => (self.rouse(number), Then::RunOn),
             _ => (255, Then::Away(1)),
         }
     }
@@ -276,6 +281,17 @@ impl<'a> Rounds<'a> {
         }
     }
 
+    /// A start. Whoever sleeps stands in the next list at once, in front of
+    /// all that come there later, the caller too.
+    fn rouse(&mut self, target: usize) -> u8 {
+        if self.seats[target].fate != ASLEEP {
+            return 253;
+        }
+        self.seats[target].fate = 0;
+        self.next.push_back(target);
+        1
+    }
+
     fn meet(&mut self, who: usize, barrier: usize) -> (u8, Then) {
         let size = self.plan.barrier_sizes[barrier].expect("a checked plan sizes its barriers");
         let queue = &mut self.barriers[barrier];
@@ -294,7 +310,7 @@ impl<'a> Rounds<'a> {
         let over = self
             .seats
             .iter()
-            .all(|seat| seat.fate == 1 || seat.fate == 2);
+            .all(|seat| matches!(seat.fate, 1 | 2 | ASLEEP));
         let tallies = [self.moves, self.completed, self.log.len() as u32];
         let mut report = vec![if over { 1 } else { 2 }, self.seats.len() as u8];
         for tally in tallies {

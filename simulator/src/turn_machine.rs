@@ -15,10 +15,14 @@
 //! * The caller that fills a barrier gives up the token.
 //! * A load of two bytes looks for a copy for each of them, since they can
 //!   lie in different pages.
+//! * A started worker is in no list but the next round's, so its turns pass
+//!   until that round; its fate is going from the start on.
+//! * A start never fails, whatever the count. A holder with count 0 that has
+//!   started somebody runs on, and a lock then commits again.
 
 use crate::check::{Plan, Step};
-use crate::counts::{Counts, Move, Sight, Stand};
-use crate::format::{LOG_MARK, LOG_RECORD_LENGTH, MOST_WORKERS, OP_EXIT, REPORT_LENGTH};
+use crate::counts::{Counts, Found, Hold, Joining, Move, Sight, Stand};
+use crate::format::{LOG_MARK, LOG_RECORD_LENGTH, MOST_WORKERS, OP_EXIT, OP_START, REPORT_LENGTH};
 use crate::outcome::Outcome;
 
 const PAGE_SIZE: usize = 256;
@@ -26,6 +30,8 @@ const PAGES: usize = 8;
 
 const NOBODY: u8 = 255;
 const FAILURE: u8 = 254;
+const STARTED: u8 = 1;
+const NOT_ASLEEP: u8 = 253;
 
 /// A page as a worker has copied it: what it works on, and the twin.
 #[derive(Clone)]
@@ -42,6 +48,7 @@ enum Fate {
     Failed,
     OnCondition,
     AtBarrier,
+    Asleep,
 }
 
 /// A worker's private record.
@@ -58,7 +65,7 @@ struct Worker {
 }
 
 impl Worker {
-    fn new() -> Self {
+    fn new(fate: Fate) -> Self {
         Worker {
             place: 0,
             registers: [0; 4],
@@ -66,8 +73,12 @@ impl Worker {
             count: 0,
             copies: Default::default(),
             arrived: false,
-            fate: Fate::Going,
+            fate,
         }
+    }
+
+    fn has_copies(&self) -> bool {
+        self.copies.iter().any(Option::is_some)
     }
 
     fn read(&self, shared: &[u8], address: usize) -> u8 {
@@ -194,16 +205,25 @@ pub struct Machine<'a> {
     turns: usize,
     last_moved: usize,
     first: Vec<usize>,
+    /// What the holder has started, and how the last one came into the next
+    /// list; only counts need them.
+    hold: Hold,
+    joined: Option<Joining>,
 }
 
 impl<'a> Machine<'a> {
     /// The start of round 1.
     pub fn new(plan: &'a Plan, memory: &[u8]) -> Self {
+        let mut workers = vec![Worker::new(Fate::Going); plan.workers()];
+        for &sleeper in &plan.sleepers {
+            workers[usize::from(sleeper)] = Worker::new(Fate::Asleep);
+        }
+        let awake = |worker: &usize| workers[*worker].fate == Fate::Going;
         Machine {
             plan,
             shared: memory.to_vec(),
-            workers: vec![Worker::new(); plan.workers()],
-            list: (0..plan.workers()).collect(),
+            list: (0..plan.workers()).filter(awake).collect(),
+            workers,
             next: Vec::new(),
             parked: Vec::new(),
             rounds: 0,
@@ -214,6 +234,8 @@ impl<'a> Machine<'a> {
             turns: 0,
             last_moved: 0,
             first: first_records(plan),
+            hold: Hold::default(),
+            joined: None,
         }
     }
 
@@ -266,7 +288,7 @@ impl<'a> Machine<'a> {
             return None;
         }
         if !self.list.contains(&worker) {
-            self.counts.passes_out_of_list += 1;
+            self.pass_out_of_list(worker);
             return None;
         }
         let fence_full = self.list.iter().all(|&each| self.workers[each].arrived);
@@ -293,6 +315,32 @@ impl<'a> Machine<'a> {
                 self.token_step(worker, step);
                 Some(Move::Synchronising)
             }
+        }
+    }
+
+    fn pass_out_of_list(&mut self, worker: usize) {
+        match self.found(worker) {
+            Some(Found::Started) => self.counts.passes_before_first_round += 1,
+            Some(_) => self.counts.passes_out_of_list += 1,
+            None => self.counts.passes_asleep += 1,
+        }
+    }
+
+    /// Where a worker is that does not sleep, as counts need to know it. Only
+    /// one that was started in this round stands in the next list without
+    /// having arrived.
+    fn found(&self, worker: usize) -> Option<Found> {
+        let own = &self.workers[worker];
+        match own.fate {
+            Fate::Asleep => None,
+            Fate::Exited => Some(Found::Exited),
+            Fate::Failed => Some(Found::Failed),
+            Fate::OnCondition => Some(Found::OnCondition),
+            Fate::AtBarrier => Some(Found::AtBarrier),
+            Fate::Going if self.list.first() == Some(&worker) => Some(Found::Itself),
+            Fate::Going if self.list.contains(&worker) => Some(Found::InList),
+            Fate::Going if own.arrived => Some(Found::InNext),
+            Fate::Going => Some(Found::Started),
         }
     }
 
@@ -324,6 +372,11 @@ impl<'a> Machine<'a> {
     fn token_step(&mut self, worker: usize, step: Step) {
         let stand = self.stand(worker);
         self.counts.synchronising(stand, step.op);
+        let copied = self.workers[worker].has_copies();
+        let hold = self.hold;
+        self.counts
+            .limits
+            .behind_start(stand, step.op, hold, copied);
         let (outcome, token) = if self.fails(worker, step.op) {
             self.counts.limits.failed(stand, step.op);
             self.fail(worker)
@@ -362,12 +415,13 @@ impl<'a> Machine<'a> {
                 self.signal(worker, step.number)
             }
             37 => self.barrier(worker, step.number),
+            OP_START => self.start(worker, usize::from(step.number)),
             _ => self.exit(worker),
         }
     }
 
     fn commit(&mut self, worker: usize) {
-        let copied = self.workers[worker].copies.iter().any(Option::is_some);
+        let copied = self.workers[worker].has_copies();
         let written = self.workers[worker].commit(&mut self.shared);
         if copied {
             self.counts.limits.committed(written);
@@ -435,9 +489,32 @@ impl<'a> Machine<'a> {
         self.parked = kept;
         for (_, each) in freed {
             self.workers[each].fate = Fate::Going;
-            self.next.push(each);
+            self.join_next(each, Joining::Freed);
         }
         (size, Token::GiveUp)
+    }
+
+    fn start(&mut self, worker: usize, target: usize) -> (u8, Token) {
+        self.commit(worker);
+        let count = self.workers[worker].count;
+        let found = self.found(target);
+        self.counts.limits.starts(count, found);
+        self.hold.any = true;
+        if self.workers[target].fate != Fate::Asleep {
+            return (NOT_ASLEEP, Token::Keep);
+        }
+        self.hold.sleepers += 1;
+        let (started, waiting) = (self.hold.sleepers, self.next.len());
+        self.counts.limits.started(worker, target, started, waiting);
+        self.workers[target].fate = Fate::Going;
+        self.join_next(target, Joining::Started);
+        (STARTED, Token::Keep)
+    }
+
+    fn join_next(&mut self, worker: usize, how: Joining) {
+        self.counts.limits.joins(self.joined, how);
+        self.joined = Some(how);
+        self.next.push(worker);
     }
 
     fn exit(&mut self, worker: usize) -> (u8, Token) {
@@ -460,8 +537,9 @@ impl<'a> Machine<'a> {
             return;
         }
         self.list.remove(0);
+        self.hold = Hold::default();
         if token == Token::GiveUp {
-            self.next.push(worker);
+            self.join_next(worker, Joining::GaveUp);
         }
         if self.list.is_empty() {
             self.complete_round();
@@ -470,12 +548,14 @@ impl<'a> Machine<'a> {
 
     fn complete_round(&mut self) {
         self.rounds += 1;
+        self.joined = None;
         self.list = std::mem::take(&mut self.next);
         for &each in &self.list {
             self.workers[each].arrived = false;
         }
         if self.list.is_empty() {
-            let over = |worker: &Worker| matches!(worker.fate, Fate::Exited | Fate::Failed);
+            let over =
+                |worker: &Worker| matches!(worker.fate, Fate::Exited | Fate::Failed | Fate::Asleep);
             self.end = if self.workers.iter().all(over) {
                 End::Finished
             } else {
@@ -506,9 +586,10 @@ impl<'a> Machine<'a> {
     }
 }
 
-/// Behind the plan record come those of the barriers, then the steps.
+/// Behind the plan record come those of the barriers and of the sleepers, then
+/// the steps.
 fn first_records(plan: &Plan) -> Vec<usize> {
-    let mut next = 1 + plan.barrier_sizes.iter().flatten().count();
+    let mut next = 1 + plan.barrier_sizes.iter().flatten().count() + plan.sleepers.len();
     let mut first = Vec::new();
     for own in &plan.steps {
         first.push(next);
@@ -524,6 +605,7 @@ fn fate_byte(fate: Fate) -> u8 {
         Fate::Failed => 2,
         Fate::OnCondition => 3,
         Fate::AtBarrier => 4,
+        Fate::Asleep => 5,
     }
 }
 

@@ -24,6 +24,7 @@ fn agrees(plan: &Plan, start: &[u8], list: &[u8], full: &Outcome) -> bool {
 fn compare(rng: &mut Rng, draft: &Draft, kinds: &[TurnKind]) -> (usize, usize) {
     let plan = check(&draft.file()).expect("an accepted plan");
     assert_eq!(plan.steps, draft.steps);
+    assert_eq!(plan.sleepers, draft.sleepers);
     let start = memory(rng);
     let full = play_rounds(&plan, &start);
     let (workers, steps) = (plan.workers(), plan.step_count());
@@ -65,7 +66,7 @@ fn long_plans() {
     let mut rng = Rng::new(21);
     for round in 0..6 {
         let longest = plan(&mut rng, PlanKind::Longest);
-        assert_eq!(longest.file().len(), 1_033 * RECORD_LENGTH);
+        assert_eq!(longest.file().len(), 1_040 * RECORD_LENGTH);
         compare(&mut rng, &longest, &TurnKind::ALL);
         let full = plan(&mut rng, PlanKind::FullLog);
         compare(&mut rng, &full, &[TurnKind::Shuffled, TurnKind::Bursts]);
@@ -171,10 +172,30 @@ fn every_outcome_is_met() {
         (37, 254),
         (38, 254),
         (38, 255),
+        (39, 1),
+        (39, 253),
     ];
     for pair in wanted {
         assert!(met.contains(&pair), "{pair:?} is not among {met:?}");
     }
+}
+
+#[test]
+fn a_third_of_the_accepted_plans_have_sleepers() {
+    let source = Scenarios::new();
+    let (mut accepted, mut sleeping, mut started) = (0, 0, 0);
+    for seed in 0..3_000 {
+        let Ok(read) = check(&source.of(seed).file) else {
+            continue;
+        };
+        accepted += 1;
+        sleeping += usize::from(!read.sleepers.is_empty());
+        let log = play_rounds(&read, &[0; 2_048]).log;
+        let starts = |record: &[u8]| (record[5], record[7]) == (39, 1);
+        started += usize::from(log.chunks_exact(8).any(starts));
+    }
+    assert!(5 * sleeping > 2 * accepted, "{sleeping} of {accepted}");
+    assert!(3 * started > accepted, "{started} of {accepted}");
 }
 
 #[test]
@@ -191,7 +212,7 @@ fn scenarios_are_settled_by_their_seed() {
             assert_eq!(first, second);
         }
     }
-    for answer in [0, 2, 7, 11, 12, 13] {
+    for answer in [0, 2, 7, 11, 12, 13, 14] {
         assert!(answers.contains(&answer), "{answers:?}");
     }
 }

@@ -1,60 +1,14 @@
 //! The paper's cases 1 to 11 and further plans, with values worked out by
 //! hand from the paper.
 
-use simulator::format::{LOG_LENGTH, LOG_RECORD_LENGTH, MEMORY_LENGTH, REPORT_LENGTH, WORK_LENGTH};
+mod common;
+
+use common::{end_of, report, run_call, Row};
+use simulator::format::{LOG_LENGTH, MEMORY_LENGTH};
 use simulator::generate::draft::Draft;
 use simulator::generate::{plan, PlanKind, Rng};
-use simulator::listing::{listing_turns, log_lines};
-use simulator::{check, check_code, listing, play_rounds, run, Machine, Outcome};
-
-type Row<'a> = &'a [(u8, u8, u16)];
-
-const NO: u8 = 255;
-
-/// Runs a draft by the call, on old contents, and cuts the log to its records.
-fn run_call(draft: &Draft, turns: &[u8], start: &[(usize, u8)]) -> Outcome {
-    let mut memory = vec![0; MEMORY_LENGTH];
-    for &(address, byte) in start {
-        memory[address] = byte;
-    }
-    let mut log = vec![0xAA; LOG_LENGTH];
-    let mut report = [0xBB; REPORT_LENGTH];
-    let mut work = vec![0xCC; WORK_LENGTH];
-    let file = draft.file();
-    let answer = run(&file, turns, &mut memory, &mut log, &mut report, &mut work);
-    assert_eq!(answer, 0);
-    assert!(work.iter().all(|&byte| byte == 0));
-    let used = usize::from(u16::from_le_bytes([report[6], report[7]])) * LOG_RECORD_LENGTH;
-    assert!(log[used..].iter().all(|&byte| byte == 0));
-    log.truncate(used);
-    Outcome {
-        memory,
-        log,
-        report,
-    }
-}
-
-/// Runs a draft with the listing's turns; the round-by-round run must agree.
-fn end_of(draft: &Draft, start: &[(usize, u8)]) -> Outcome {
-    let plan = check(&draft.file()).expect("an accepted plan");
-    let outcome = run_call(draft, &listing_turns(&plan), start);
-    let mut memory = vec![0; MEMORY_LENGTH];
-    for &(address, byte) in start {
-        memory[address] = byte;
-    }
-    assert_eq!(outcome, play_rounds(&plan, &memory));
-    outcome
-}
-
-fn report(head: [u8; 2], tallies: [u16; 3], fates: &[u8]) -> [u8; REPORT_LENGTH] {
-    let mut bytes = head.to_vec();
-    for tally in tallies {
-        bytes.extend(tally.to_le_bytes());
-    }
-    bytes.extend(fates);
-    bytes.resize(REPORT_LENGTH, NO);
-    bytes.try_into().expect("sixteen bytes")
-}
+use simulator::listing::log_lines;
+use simulator::{check, check_code, listing, Machine};
 
 fn race() -> Draft {
     let first: Row = &[(17, 0, 2), (22, 0, 2), (16, 1, 1), (18, 1, 0)];
@@ -183,10 +137,10 @@ fn case_11_limits() {
         assert_eq!(listing(&over.file()), "refused 7 1\n");
     }
     let longest = plan(&mut Rng::new(1), PlanKind::Longest).file();
-    assert_eq!((longest.len(), check_code(&longest)), (7_231, 0));
+    assert_eq!((longest.len(), check_code(&longest)), (7_280, 0));
     let mut longer = longest.clone();
     longer.extend_from_slice(&longest[longest.len() - 7..]);
-    assert_eq!((longer.len(), check_code(&longer)), (7_238, 1));
+    assert_eq!((longer.len(), check_code(&longer)), (7_287, 1));
     assert_eq!(listing(&longer), "refused 1 0\n");
     let none: Row = &[];
     assert_eq!(check_code(&Draft::from_rows(&[], &[none; 8]).file()), 0);

@@ -18,7 +18,7 @@ fn damaged_files_are_refused_as_made() {
         }
         met.insert(answer.map_or_else(|refusal| refusal.number, |_| 0));
     }
-    assert_eq!(met, (0..=10).collect());
+    assert_eq!(met, (0..=10).chain([14]).collect());
 }
 
 #[test]

@@ -135,14 +135,14 @@ static void put_record(struct buffer *file, unsigned worker, unsigned op,
     file->len += TAMPERMAUVE_RECORD_LENGTH;
 }
 
-/* A step from four bytes; its operands are mostly in range. */
-static void put_step(struct buffer *file, unsigned worker, const uint8_t *from)
+/* A step from four bytes, in a plan of so many workers; its operands are mostly in range. */
+static void put_step(struct buffer *file, unsigned worker, unsigned workers, const uint8_t *from)
 {
     static const uint8_t ops[16] = {
         TAMPERMAUVE_OP_SET,       TAMPERMAUVE_OP_LOAD,         TAMPERMAUVE_OP_STORE, TAMPERMAUVE_OP_ADD,
         TAMPERMAUVE_OP_SUBTRACT,  TAMPERMAUVE_OP_SKIP_ZERO,    TAMPERMAUVE_OP_SKIP_NONZERO, TAMPERMAUVE_OP_LOCK,
         TAMPERMAUVE_OP_UNLOCK,    TAMPERMAUVE_OP_WAIT,         TAMPERMAUVE_OP_SIGNAL, TAMPERMAUVE_OP_BROADCAST,
-        TAMPERMAUVE_OP_BARRIER,   TAMPERMAUVE_OP_EXIT,         TAMPERMAUVE_OP_STORE, TAMPERMAUVE_OP_UNLOCK};
+        TAMPERMAUVE_OP_BARRIER,   TAMPERMAUVE_OP_EXIT,         TAMPERMAUVE_OP_START, TAMPERMAUVE_OP_UNLOCK};
     static const uint16_t most[7] = {65535,
                                      TAMPERMAUVE_ADDRESS_LIMIT,
                                      TAMPERMAUVE_ADDRESS_LIMIT,
@@ -158,6 +158,8 @@ static void put_step(struct buffer *file, unsigned worker, const uint8_t *from)
         number = 1 + number % 8;
     else if (op < TAMPERMAUVE_OP_LOCK)
         number = op == TAMPERMAUVE_OP_SET ? number : number & 3;
+    else if (op == TAMPERMAUVE_OP_START)
+        number = number % workers;
     else
         number = op == TAMPERMAUVE_OP_EXIT ? 0 : number & 7;
     if (from[0] == 255)
@@ -165,8 +167,10 @@ static void put_step(struct buffer *file, unsigned worker, const uint8_t *from)
     put_record(file, worker, op, reg, number);
 }
 
-/* The first byte has the count of workers and of barriers, the next eight
- * their sizes; the top bit of a step's first byte goes on to the next worker. */
+/* The first byte has the count of workers. The next eight have in their low
+ * seven bits whether the barrier of that number has a size, and which, and in
+ * the top bit whether the worker of that number sleeps; the first never does.
+ * The top bit of a step's first byte goes on to the next worker. */
 static void make_file(struct buffer *file, const uint8_t *from, size_t len)
 {
     unsigned workers, worker = 0;
@@ -176,12 +180,15 @@ static void make_file(struct buffer *file, const uint8_t *from, size_t len)
     workers = 1 + (from[0] & 7);
     put_record(file, workers, TAMPERMAUVE_OP_PLAN_RECORD, 0, 0);
     for (unsigned barrier = 0; barrier < TAMPERMAUVE_BARRIER_COUNT; barrier++)
-        if (from[1 + barrier] != 0)
+        if (from[1 + barrier] & 127)
             put_record(file, 0, TAMPERMAUVE_OP_BARRIER_RECORD, barrier, 1 + (from[1 + barrier] & 7));
+    for (unsigned sleeper = 1; sleeper < workers; sleeper++)
+        if (from[1 + sleeper] & 128)
+            put_record(file, sleeper, TAMPERMAUVE_OP_SLEEP_RECORD, 0, 0);
     for (size_t at = 9; at + 4 <= len; at += 4) {
         if (from[at] & 128 && worker + 1 < workers)
             worker += 1;
-        put_step(file, worker, from + at);
+        put_step(file, worker, workers, from + at);
     }
 }
 

@@ -13,8 +13,9 @@ use std::process::ExitCode;
 use std::{env, fs};
 
 use simulator::generate::damage::{
-    barrier_damages, border_files, fault_pairs, faults, single_faults, Fault, Field,
+    barrier_damages, border_files, fault_pairs, single_faults, sleep_damages, start_damages,
 };
+use simulator::generate::faults::{faults, Fault, Field};
 use simulator::generate::{damaged_files, plan, showcase, Draft, PlanKind, Rng};
 use simulator::listing::{listing_turns, play_listed};
 use simulator::{check, check_code, listing, Machine};
@@ -80,13 +81,15 @@ fn memory_sum(memory: &[u8]) -> u64 {
     bytes.zip(1..).map(|(byte, place)| place * byte).sum()
 }
 
-/// The paper's cases, the borders, runs of every kind, refused files.
+/// The paper's cases, those of its first request, the borders, runs of every
+/// kind, refused files.
 fn files(rng: &mut Rng) -> Vec<Vec<u8>> {
     let mut files = Vec::new();
     files.extend(cases());
+    files.extend(starts());
     files.extend(borders(rng));
     for kind in PlanKind::SMALL {
-        files.extend((0..14).map(|_| plan(rng, kind).file()));
+        files.extend((0..11).map(|_| plan(rng, kind).file()));
     }
     for kind in PlanKind::LONG {
         files.push(plan(rng, kind).file());
@@ -99,7 +102,8 @@ type Row<'a> = &'a [(u8, u8, u16)];
 
 /// Cases 1 to 9 in the paper's order, case 3 with its starting memory stored
 /// in front of a barrier. Then case 9 with a broadcast in place of its signal,
-/// and two waiting workers with one broadcast and with two signals.
+/// and with either outside of a lock, and two waiting workers with one broadcast
+/// and with two signals.
 fn cases() -> Vec<Vec<u8>> {
     let adds: Row = &[(17, 0, 0), (16, 1, 1), (19, 0, 1), (18, 0, 0)];
     let locked = [&[(32, 0, 0)][..], adds, &[(33, 0, 0)]].concat();
@@ -130,10 +134,79 @@ fn cases() -> Vec<Vec<u8>> {
         Draft::from_rows(pair, &[meets, meets]),
         Draft::from_rows(none, &[waits, signals]),
         Draft::from_rows(none, &[waits, broadcasts]),
+        Draft::from_rows(none, &[waits, &signals[1..2]]),
+        Draft::from_rows(none, &[waits, &broadcasts[1..2]]),
         Draft::from_rows(none, &[waits, waits, broadcasts]),
         Draft::from_rows(none, &[waits, waits, &[signals, signals].concat()]),
     ];
     plans.iter().map(Draft::file).collect()
+}
+
+/// A plan of the first request, with a barrier of two workers.
+fn sleeping(rows: &[Row], sleepers: &[u8]) -> Draft {
+    Draft::from_rows(&[(0, 2)], rows).asleep(sleepers)
+}
+
+const ONE: Row = &[(16, 0, 0x0107), (18, 0, 0)];
+const TWO: Row = &[(16, 0, 0x0209), (18, 0, 0)];
+
+/// Nobody is ever started; one is started twice; a started worker starts
+/// another; a start in a lock, with own steps and a barrier behind it, and
+/// with a lock that commits again.
+fn starts() -> Vec<Vec<u8>> {
+    let sees: Row = &[(17, 1, 0), (18, 1, 4)];
+    let locked = [
+        &[(32, 0, 3)],
+        ONE,
+        &[(39, 0, 1), (18, 0, 2), (33, 0, 3)][..],
+    ];
+    let again = [
+        ONE,
+        &[(39, 0, 1), (18, 0, 2), (32, 0, 0)],
+        TWO,
+        &[(38, 0, 0)],
+    ];
+    let meets = [&[(39, 0, 2)], ONE, &[(37, 0, 0)]].concat();
+    let plans = [
+        sleeping(&[ONE, TWO], &[1]),
+        sleeping(&[&[(39, 0, 1), (39, 0, 1)], TWO], &[1]),
+        sleeping(&[&[(39, 0, 1)], &[(39, 0, 2)], TWO], &[1, 2]),
+        sleeping(&[&locked.concat(), sees], &[1]),
+        sleeping(&[&again.concat(), sees], &[1]),
+        sleeping(&[&[(37, 0, 0)], &meets, sees], &[2]),
+        sleeping(&[&meets, &[], sees], &[2]),
+    ];
+    let mut files: Vec<Vec<u8>> = plans.iter().map(Draft::file).collect();
+    files.extend(starts_among_many());
+    files
+}
+
+/// Starts of one that failed, exited, waits, queues, gave up the token, is the
+/// caller or comes behind it; and those started, freed and done with the token
+/// in one list.
+fn starts_among_many() -> [Vec<u8>; 2] {
+    let everybody = [0, 1, 2, 3, 4, 5, 6, 7].map(|target| (39, 0, target));
+    let found: [Row; 8] = [
+        &[(33, 0, 0)],
+        &[],
+        &[(32, 0, 0), (34, 0, 0)],
+        &[(37, 0, 0)],
+        &[(35, 0, 1)],
+        &everybody,
+        &everybody,
+        TWO,
+    ];
+    let joined: [Row; 6] = [
+        &[(35, 0, 0)],
+        &[(37, 0, 0)],
+        &[(39, 0, 5), (35, 0, 0)],
+        &[(39, 0, 4), (37, 0, 0)],
+        ONE,
+        TWO,
+    ];
+    let found = sleeping(&found, &[7]);
+    let joined = sleeping(&joined, &[4, 5]);
+    [found.file(), joined.file()]
 }
 
 /// Case 11: what just passes and what just does not.
@@ -161,8 +234,8 @@ fn borders(rng: &mut Rng) -> Vec<Vec<u8>> {
     files
 }
 
-/// A file for every worker, register and number, and every barrier record,
-/// that a plan with each op may not have. Last a skip too far, which the fault
+/// A file for every worker, register and number, and every barrier and sleep
+/// record, that a plan with each op may not have. Last a skip too far, which the fault
 /// behind it comes before.
 fn refused_operands() -> Vec<Vec<u8>> {
     let own: Row = &[
@@ -181,16 +254,20 @@ fn refused_operands() -> Vec<Vec<u8>> {
         (35, 0, 7),
         (36, 0, 0),
         (37, 0, 4),
+        (39, 0, 1),
         (38, 0, 0),
     ];
-    let every_op = Draft::from_rows(&[(1, 2), (4, 8)], &[own, synchronising]);
+    let sizes: [(u8, u16); 2] = [(1, 2), (4, 8)];
+    let every_op = Draft::from_rows(&sizes, &[own, synchronising, &[]]).asleep(&[1, 2]);
     let in_operand =
         |fault: &Fault| matches!(fault.field, Field::Worker | Field::Register | Field::Number);
     let all = faults(&every_op).into_iter().zip(single_faults(&every_op));
     let operands = all
         .filter(|(fault, _)| in_operand(fault))
         .map(|each| each.1);
-    let damaged = operands.chain(barrier_damages(&every_op));
+    let places = barrier_damages(&every_op).into_iter();
+    let sleepers = sleep_damages(&every_op).into_iter().chain(start_damages());
+    let damaged = operands.chain(places).chain(sleepers);
     let mut files: Vec<Vec<u8>> = damaged.map(|each| each.file).collect();
     files.push(Draft::from_rows(&[], &[&[(16, 0, 0), (21, 0, 127), (16, 4, 0)]]).file());
     files
@@ -204,8 +281,10 @@ fn refused(rng: &mut Rng) -> Vec<Vec<u8>> {
         &[
             &[(16, 0, 1), (22, 0, 1), (37, 0, 1)],
             &[(18, 3, 2_046), (32, 0, 15), (33, 0, 0), (38, 0, 0)],
+            &[(39, 0, 1)],
         ],
-    );
+    )
+    .asleep(&[1, 2]);
     let mut files: Vec<Vec<u8>> = Vec::new();
     let picked = |count: usize, from: Vec<Vec<u8>>, rng: &mut Rng| -> Vec<Vec<u8>> {
         let each = (0..count).map(|_| from[rng.below(from.len())].clone());
@@ -215,11 +294,11 @@ fn refused(rng: &mut Rng) -> Vec<Vec<u8>> {
         all.into_iter().map(|each| each.file).collect()
     };
     files.extend(refused_operands());
-    files.extend(picked(80, bytes(single_faults(&small)), rng));
-    files.extend(picked(40, bytes(fault_pairs(&small)), rng));
+    files.extend(picked(50, bytes(single_faults(&small)), rng));
+    files.extend(picked(30, bytes(fault_pairs(&small)), rng));
     let others = bytes(damaged_files(rng, 60));
     let short: Vec<Vec<u8>> = others.iter().filter(|f| f.len() < 400).cloned().collect();
-    files.extend(picked(60, short, rng));
+    files.extend(picked(40, short, rng));
     for number in [1, 8, 10] {
         let of_number = |file: &&Vec<u8>| check_code(file) % 256 == number;
         files.extend(others.iter().filter(of_number).take(4).cloned());
@@ -283,13 +362,13 @@ fn nothing_missing(files: &[Vec<u8>]) -> Result<(), String> {
     if let Some((name, _)) = counts.iter().find(|(_, count)| *count == 0) {
         return Err(format!("never came up: {name}"));
     }
-    if seen.answers != (0..=10).collect() {
+    if seen.answers != (0..=10).chain([14]).collect() {
         return Err(format!("answers {:?}", seen.answers));
     }
     if seen.ends != BTreeSet::from([1, 2]) {
         return Err(format!("ends {:?}", seen.ends));
     }
-    if seen.fates != BTreeSet::from([1, 2, 3, 4, 255]) {
+    if seen.fates != BTreeSet::from([1, 2, 3, 4, 5, 255]) {
         return Err(format!("fates {:?}", seen.fates));
     }
     let missing = WANTED.iter().find(|rule| !seen.rules.contains(rule));
@@ -297,7 +376,7 @@ fn nothing_missing(files: &[Vec<u8>]) -> Result<(), String> {
 }
 
 /// What some plan must show.
-const WANTED: [Rule; 21] = [
+const WANTED: [Rule; 25] = [
     (32, false, 1),
     (32, true, 2),
     (33, true, 0),
@@ -319,4 +398,8 @@ const WANTED: [Rule; 21] = [
     (37, true, 254),
     (38, false, 255),
     (38, true, 254),
+    (39, false, 1),
+    (39, true, 1),
+    (39, false, 253),
+    (39, true, 253),
 ];

@@ -36,6 +36,14 @@ pub enum Limit {
     TurnNumber,
     RecordIndex,
     Committed,
+    Start,
+    StartFound,
+    StartedBy,
+    StartedInHold,
+    StartedBehind,
+    BehindStart,
+    StoredBehindStart,
+    Joined,
 }
 
 /// A row and the place in it of a limit that was met.
@@ -55,14 +63,17 @@ const fn row(
     (limit, row)
 }
 
-const COUNT: usize = 29;
+const COUNT: usize = 37;
+
+/// Count of ops: 16 to 22 and 32 to 39.
+pub const OPS: usize = PLAIN.len() + SYNCHRONISING.len();
 
 /// Each row with its limit, in the order of `Limit`.
 const TABLE: [(Limit, Row); COUNT] = [
     row(
         Limit::OpsOfEight,
         "step by op and worker, eight workers",
-        112,
+        OPS * 8,
         op_and_worker,
     ),
     row(Limit::LastStep, "128th step", 8, worker),
@@ -160,6 +171,44 @@ const TABLE: [(Limit, Row); COUNT] = [
         COMMITTED.len(),
         |place| COMMITTED[place].to_string(),
     ),
+    row(Limit::Start, "start by outcome and count", 256, start),
+    row(
+        Limit::StartFound,
+        "start of one that does not sleep",
+        16,
+        found,
+    ),
+    row(
+        Limit::StartedBy,
+        "sleeper by who started it",
+        49,
+        started_by,
+    ),
+    row(
+        Limit::StartedInHold,
+        "sleepers started in one hold",
+        7,
+        from_one,
+    ),
+    row(
+        Limit::StartedBehind,
+        "sleeper started, workers in the next list before",
+        7,
+        from_zero,
+    ),
+    row(
+        Limit::BehindStart,
+        "synchronising step behind a start in one hold",
+        18,
+        behind_start,
+    ),
+    row(
+        Limit::StoredBehindStart,
+        "the same with bytes stored behind the start",
+        18,
+        behind_start,
+    ),
+    row(Limit::Joined, "joins the next list behind one", 8, joined),
 ];
 
 /// The rows; that each stands at its limit's place is seen by the compiler.
@@ -184,7 +233,7 @@ pub const COMMITTED: [usize; 5] = [0, 1, 2, 255, 256];
 pub const TURNS: [usize; 8] = [255, 256, 257, 32_767, 32_768, 32_769, 65_534, 65_535];
 
 /// Indices of records, the plan record being 0.
-pub const RECORDS: [usize; 8] = [255, 256, 257, 511, 512, 1_023, 1_024, 1_032];
+pub const RECORDS: [usize; 8] = [255, 256, 257, 511, 512, 1_023, 1_024, 1_039];
 
 fn itself(_: usize) -> String {
     "not met".to_string()
@@ -202,10 +251,10 @@ fn worker(place: usize) -> String {
     format!("worker {place}")
 }
 
-/// Names of the ops 16 to 22 and 32 to 38.
+/// Names of the ops 16 to 22 and 32 to 39.
 fn op_and_worker(place: usize) -> String {
-    let ops = [PLAIN, SYNCHRONISING].concat();
-    format!("{}, worker {}", ops[place % 14], place / 14)
+    let ops = [&PLAIN[..], &SYNCHRONISING].concat();
+    format!("{}, worker {}", ops[place % OPS], place / OPS)
 }
 
 fn op_and_register(place: usize) -> String {
@@ -275,6 +324,53 @@ fn last_turn(place: usize) -> String {
         "an arrival",
         "a synchronising step, the plan goes on",
         "a synchronising step, the plan has ended",
+    ];
+    names[place].to_string()
+}
+
+const HELD: [&str; 2] = ["count 0", "count above 0"];
+
+fn start(place: usize) -> String {
+    let whom = ["a sleeper", "no sleeper"][place / 128];
+    format!("{whom}, count {}", place % 128)
+}
+
+/// In the order of `Found`.
+fn found(place: usize) -> String {
+    let names = [
+        "itself",
+        "one behind it in the list",
+        "one that stands in the next list",
+        "one started in this round",
+        "one that exited",
+        "one that failed",
+        "one on a condition",
+        "one at a barrier",
+    ];
+    format!("{}, {}", names[place / 2], HELD[place % 2])
+}
+
+fn started_by(place: usize) -> String {
+    let (sleeper, other) = (place / 7 + 1, place % 7);
+    let caller = other + usize::from(other >= sleeper);
+    format!("worker {sleeper} by worker {caller}")
+}
+
+fn behind_start(place: usize) -> String {
+    let name = SYNCHRONISING.get(place / 2).unwrap_or(&"end of steps");
+    format!("{name}, {}", HELD[place % 2])
+}
+
+fn joined(place: usize) -> String {
+    let names = [
+        "started, started",
+        "started, freed",
+        "started, gave up the token",
+        "gave up the token, started",
+        "gave up the token, freed",
+        "gave up the token, gave up the token",
+        "freed, freed",
+        "freed, gave up the token",
     ];
     names[place].to_string()
 }

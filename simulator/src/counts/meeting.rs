@@ -1,8 +1,8 @@
 //! Noting the limits that a run meets.
 
 use crate::check::Step;
-use crate::counts::limits::{Limit, Met, COMMITTED, RECORDS, SET, TURNS};
-use crate::format::{MOST_STEPS, MOST_TURNS, MOST_WORKERS};
+use crate::counts::limits::{Limit, Met, COMMITTED, OPS, RECORDS, SET, TURNS};
+use crate::format::{MOST_STEPS, MOST_TURNS, MOST_WORKERS, OP_START};
 
 /// Where a worker stands when it comes to a step, or to its end of steps.
 #[derive(Clone, Copy)]
@@ -33,6 +33,38 @@ pub enum Move {
     OwnStep,
     Arrival,
     Synchronising,
+}
+
+/// Where a start finds a worker that does not sleep.
+#[derive(Clone, Copy, Debug, PartialEq, Eq)]
+pub enum Found {
+    Itself,
+    /// Behind the caller in this round's list.
+    InList,
+    /// In the next list, having had the token or having been freed.
+    InNext,
+    /// In the next list, started in this round.
+    Started,
+    Exited,
+    Failed,
+    OnCondition,
+    AtBarrier,
+}
+
+/// How a worker comes into the next list.
+#[derive(Clone, Copy, Debug, PartialEq, Eq)]
+pub enum Joining {
+    Started,
+    Freed,
+    GaveUp,
+}
+
+/// What the holder has done since it got the token: whether it came to a
+/// start, and how many sleepers it started.
+#[derive(Clone, Copy, Debug, Default, PartialEq, Eq)]
+pub struct Hold {
+    pub any: bool,
+    pub sleepers: usize,
 }
 
 /// The limits met by one run, in the order in which it met them.
@@ -73,7 +105,7 @@ impl Meetings {
     /// Any step, by the place of its op among all ops.
     fn step(&mut self, stand: Stand, op: usize) {
         if stand.workers == MOST_WORKERS {
-            self.note(Limit::OpsOfEight, 14 * stand.worker + op);
+            self.note(Limit::OpsOfEight, OPS * stand.worker + op);
         }
         if stand.place + 1 == MOST_STEPS {
             self.note(Limit::LastStep, stand.worker);
@@ -172,6 +204,58 @@ impl Meetings {
         if let Some(above) = usize::from(count).checked_sub(1) {
             self.note(Limit::CountedSignal, 127 * usize::from(op - 35) + above);
         }
+    }
+
+    /// A start with this count of somebody that sleeps, or is found elsewhere.
+    pub fn starts(&mut self, count: u8, found: Option<Found>) {
+        let count = usize::from(count);
+        self.note(
+            Limit::Start,
+            MOST_STEPS * usize::from(found.is_some()) + count,
+        );
+        if let Some(found) = found {
+            let place = 2 * found as usize + usize::from(count > 0);
+            self.note(Limit::StartFound, place);
+        }
+    }
+
+    /// A sleeper is started, so many in this hold, with so many before it in
+    /// the next list. The first worker never sleeps and nobody starts itself.
+    pub fn started(&mut self, caller: usize, sleeper: usize, in_hold: usize, next: usize) {
+        let other = caller - usize::from(caller > sleeper);
+        let others = MOST_WORKERS - 1;
+        self.note(Limit::StartedBy, others * (sleeper - 1) + other);
+        self.note(Limit::StartedInHold, in_hold - 1);
+        self.note(Limit::StartedBehind, next);
+    }
+
+    /// The holder at a synchronising step or its end, with or without copies,
+    /// after what it has done in this hold.
+    pub fn behind_start(&mut self, stand: Stand, op: u8, hold: Hold, copied: bool) {
+        if !hold.any {
+            return;
+        }
+        let step = match stand.place == stand.length {
+            true => usize::from(OP_START - 32) + 1,
+            false => usize::from(op - 32),
+        };
+        let place = 2 * step + usize::from(stand.count > 0);
+        self.note(Limit::BehindStart, place);
+        if copied {
+            self.note(Limit::StoredBehindStart, place);
+        }
+    }
+
+    /// A worker comes into the next list, behind one that came so.
+    pub fn joins(&mut self, before: Option<Joining>, how: Joining) {
+        let place = match (before, how) {
+            (None, _) => return,
+            // The caller that frees others comes directly behind them.
+            (Some(Joining::Freed), Joining::Freed) => 6,
+            (Some(Joining::Freed), _) => 7,
+            (Some(before), how) => 3 * usize::from(before == Joining::GaveUp) + how as usize,
+        };
+        self.note(Limit::Joined, place);
     }
 
     /// A wait keeps this count.

@@ -1,11 +1,12 @@
 //! Damaged plan files, with the answer that a check must give.
-//!
-//! The limits are written down here a second time, so that a slip in the
-//! check's own table shows.
 
 use crate::check::{Refusal, Step};
-use crate::format::{file_of, Record, MOST_STEPS, OP_BARRIER_SIZE, RECORD_LENGTH, RECORD_MARK};
+use crate::format::{
+    file_of, Record, MOST_STEPS, MOST_WORKERS, OP_BARRIER_SIZE, OP_SLEEP, OP_START, RECORD_LENGTH,
+    RECORD_MARK,
+};
 use crate::generate::draft::{step, Draft};
+use crate::generate::faults::{apply, deciding, faults, Fault};
 use crate::generate::plans::{plan, PlanKind};
 use crate::generate::rng::Rng;
 
@@ -19,30 +20,8 @@ pub struct Damaged {
     pub expected: Option<Result<(), Refusal>>,
 }
 
-/// A field of a record.
-#[derive(Clone, Copy, Debug, PartialEq, Eq)]
-pub enum Field {
-    FirstMark,
-    SecondMark,
-    Worker,
-    Op,
-    Register,
-    Number,
-}
-
-/// One field of one record set to a value for which the file is refused.
-#[derive(Clone, Copy, Debug)]
-pub struct Fault {
-    pub index: usize,
-    pub field: Field,
-    pub value: u16,
-    pub refusal: u8,
-}
-
-/// Ops that no record may have behind the first.
-const UNKNOWN_OPS: [u16; 9] = [2, 3, 15, 23, 31, 39, 40, 128, 255];
-
-/// A plan with every op, three workers and gaps among its barriers.
+/// A plan with every op, three workers, of which two sleep, and gaps among its
+/// barriers.
 pub fn showcase() -> Draft {
     let every: &[(u8, u8, u16)] = &[
         (16, 0, 65_535),
@@ -63,134 +42,11 @@ pub fn showcase() -> Draft {
         (16, 0, 1),
         (16, 0, 2),
         (16, 0, 3),
+        (39, 0, 2),
     ];
+    let first = [&[(39, 0, 1), (39, 0, 2)], every].concat();
     let short: &[(u8, u8, u16)] = &[(22, 2, 1), (37, 0, 3), (18, 0, 2_046)];
-    Draft::from_rows(&[(1, 2), (3, 1), (6, 8)], &[every, short, every])
-}
-
-/// Every single fault of the records of an accepted plan.
-pub fn faults(draft: &Draft) -> Vec<Fault> {
-    let records = draft.records();
-    let mut all = Vec::new();
-    for index in 0..records.len() {
-        mark_faults(&mut all, index);
-        match (index, records[index].op) {
-            (0, _) => plan_faults(&mut all),
-            (_, OP_BARRIER_SIZE) => barrier_faults(&mut all, index),
-            _ => {
-                step_faults(&mut all, &records, index);
-                far_skip_faults(&mut all, &records, index);
-            }
-        }
-    }
-    all
-}
-
-fn push(all: &mut Vec<Fault>, index: usize, field: Field, values: &[u16], refusal: u8) {
-    for &value in values {
-        all.push(Fault {
-            index,
-            field,
-            value,
-            refusal,
-        });
-    }
-}
-
-fn mark_faults(all: &mut Vec<Fault>, index: usize) {
-    push(all, index, Field::FirstMark, &[0, 0x4C, 0x50, 0xFF], 2);
-    push(all, index, Field::SecondMark, &[0, 0x4C, 0x4D, 0xFF], 2);
-}
-
-fn plan_faults(all: &mut Vec<Fault>) {
-    push(all, 0, Field::Op, &[1, 2, 16, 32, 38, 255], 3);
-    push(all, 0, Field::Worker, &[0, 9, 255], 3);
-    push(all, 0, Field::Register, &[1, 255], 3);
-    push(all, 0, Field::Number, &[1, 256, 65_535], 3);
-}
-
-fn barrier_faults(all: &mut Vec<Fault>, index: usize) {
-    push(all, index, Field::Op, &[0], 3);
-    push(all, index, Field::Op, &UNKNOWN_OPS, 6);
-    push(all, index, Field::Worker, &[1, 255], 4);
-    push(all, index, Field::Register, &[8, 255], 4);
-    push(all, index, Field::Number, &[0, 9, 256, 257, 65_535], 4);
-}
-
-fn step_faults(all: &mut Vec<Fault>, records: &[Record], index: usize) {
-    let record = records[index];
-    let before = records[index - 1];
-    push(all, index, Field::Op, &[0], 3);
-    push(all, index, Field::Op, &UNKNOWN_OPS, 6);
-    push(
-        all,
-        index,
-        Field::Worker,
-        &[u16::from(records[0].worker), 255],
-        5,
-    );
-    if before.op > OP_BARRIER_SIZE {
-        // Behind a step no barrier record may come.
-        push(all, index, Field::Op, &[1], 4);
-        if before.worker > 0 {
-            push(
-                all,
-                index,
-                Field::Worker,
-                &[u16::from(before.worker) - 1],
-                5,
-            );
-        }
-    }
-    let (registers, numbers) = wrong_operands(record.op);
-    push(all, index, Field::Register, registers, 7);
-    push(all, index, Field::Number, numbers, 7);
-    if record.op == 37 {
-        let sized = |name: u16| {
-            let mut all = records.iter();
-            all.any(|each| each.op == OP_BARRIER_SIZE && u16::from(each.register) == name)
-        };
-        let bare: Vec<u16> = (0..8).filter(|&name| !sized(name)).collect();
-        push(all, index, Field::Number, &bare, 9);
-    }
-}
-
-/// Registers and numbers that an op may not have.
-fn wrong_operands(op: u8) -> (&'static [u16], &'static [u16]) {
-    match op {
-        16 => (&[4, 255], &[]),
-        17 | 18 => (&[4, 255], &[2_047, 2_048, 65_535]),
-        19 | 20 => (&[4, 255], &[4, 256, 65_535]),
-        21 | 22 => (&[4, 255], &[0, 128, 256, 257, 65_535]),
-        32 | 33 => (&[1, 255], &[16, 256, 65_535]),
-        38 => (&[1, 255], &[1, 256, 65_535]),
-        _ => (&[1, 255], &[8, 256, 257, 65_535]),
-    }
-}
-
-/// A skip one further than just behind the last step, and further still.
-fn far_skip_faults(all: &mut Vec<Fault>, records: &[Record], index: usize) {
-    let record = records[index];
-    if record.op != 21 && record.op != 22 {
-        return;
-    }
-    let same = |each: &&Record| each.worker == record.worker;
-    let behind = records[index + 1..].iter().take_while(same).count() as u16;
-    if behind < 127 {
-        push(all, index, Field::Number, &[behind + 1, 127], 10);
-    }
-}
-
-fn apply(records: &mut [Record], fault: Fault) {
-    let record = &mut records[fault.index];
-    match fault.field {
-        Field::FirstMark => record.mark[0] = fault.value as u8,
-        Field::SecondMark => record.mark[1] = fault.value as u8,
-        Field::Worker => record.worker = fault.value as u8,
-        Field::Op => record.op = fault.value as u8,
-        Field::Register => record.register = fault.value as u8,
-        Field::Number => record.number = fault.value,
-    }
+    Draft::from_rows(&[(1, 2), (3, 1), (6, 8)], &[&first, short, every]).asleep(&[1, 2])
 }
 
 fn refused(label: String, file: Vec<u8>, number: u8, index: usize) -> Damaged {
@@ -280,40 +136,6 @@ fn with_two_faults(draft: &Draft, first: Fault, second: Fault) -> Damaged {
     }
 }
 
-/// Which of two faults is met first, where that is plain.
-fn deciding(first: Fault, second: Fault) -> Option<Fault> {
-    let rank = |fault: Fault| {
-        let order = [2, 3, 4, 6, 5, 8, 7, 9];
-        order.iter().position(|&number| number == fault.refusal)
-    };
-    if first.index != second.index {
-        return match (rank(first), rank(second)) {
-            (None, Some(_)) => Some(second),
-            (Some(_), None) => Some(first),
-            _ if first.index < second.index => Some(first),
-            _ => Some(second),
-        };
-    }
-    // A fault overwritten by the other, or an op that turns the record into
-    // another kind, leaves no plain answer unless it is tested first.
-    if first.field == second.field {
-        return Some(second);
-    }
-    let (op, other) = if first.field == Field::Op {
-        (first, second)
-    } else {
-        (second, first)
-    };
-    if op.field == Field::Op && other.refusal != 2 {
-        return Some(op);
-    }
-    let late = usize::MAX;
-    match rank(first).unwrap_or(late) <= rank(second).unwrap_or(late) {
-        true => Some(first),
-        false => Some(second),
-    }
-}
-
 /// Files with a wrong length: empty, cut, with bytes added, too long.
 pub fn length_damages(rng: &mut Rng, draft: &Draft) -> Vec<Damaged> {
     let file = draft.file();
@@ -343,34 +165,83 @@ pub fn length_damages(rng: &mut Rng, draft: &Draft) -> Vec<Damaged> {
     all
 }
 
-/// Barrier records twice, swapped, lost or behind a step.
+/// A plan with its last record a few times more. A long one comes to the
+/// greatest length of a file so, or just above it.
+pub fn lengthened(rng: &mut Rng, draft: &Draft) -> Damaged {
+    let mut file = draft.file();
+    let last = file.len() - RECORD_LENGTH..file.len();
+    for _ in 0..rng.between(1, 9) {
+        file.extend_from_within(last.clone());
+    }
+    let label = format!("lengthened to {} bytes", file.len());
+    match file.len() > 7_280 {
+        true => refused(label, file, 1, 0),
+        false => Damaged {
+            label,
+            file,
+            expected: None,
+        },
+    }
+}
+
+/// Barrier records twice, swapped, lost, behind a sleep record or a step.
 pub fn barrier_damages(draft: &Draft) -> Vec<Damaged> {
     let records = draft.records();
-    let first_step = draft.barriers.len() + 1;
-    let mut all: Vec<Damaged> = (1..first_step)
-        .map(|index| twice(&records, index))
-        .collect();
-    all.extend((2..first_step).map(|index| swapped(&records, index)));
-    all.extend((1..first_step).filter_map(|index| lost(&records, index)));
-    all.extend((first_step + 1..=records.len()).map(|index| late(&records, index)));
+    let behind = draft.barriers.len() + 1;
+    let mut all: Vec<Damaged> = (1..behind).map(|index| twice(&records, index, 4)).collect();
+    all.extend((2..behind).map(|index| swapped(&records, index, 4)));
+    all.extend((1..behind).filter_map(|index| lost(&records, index)));
+    all.extend((behind + 1..=records.len()).map(|index| late(&records, index)));
     all
 }
 
-fn twice(records: &[Record], index: usize) -> Damaged {
-    let mut records = records.to_vec();
-    records.insert(index, records[index]);
-    refused(
-        "a barrier twice".to_string(),
-        file_of(&records),
-        4,
-        index + 1,
-    )
+/// Sleep records twice, swapped, in front of a barrier record, behind a step,
+/// and each of them left out, which leaves a plan.
+pub fn sleep_damages(draft: &Draft) -> Vec<Damaged> {
+    let records = draft.records();
+    let first = draft.barriers.len() + 1;
+    let behind = first + draft.sleepers.len();
+    let mut all: Vec<Damaged> = (first..behind)
+        .map(|index| twice(&records, index, 14))
+        .collect();
+    all.extend((first + 1..behind).map(|index| swapped(&records, index, 14)));
+    all.extend((1..first).map(|index| early_sleeper(&records, index)));
+    all.extend((behind + 1..=records.len()).map(|index| late_sleeper(&records, index)));
+    for place in 0..draft.sleepers.len() {
+        let mut fewer = draft.clone();
+        fewer.sleepers.remove(place);
+        all.push(accepted("a sleeper less", &fewer));
+    }
+    all
 }
 
-fn swapped(records: &[Record], index: usize) -> Damaged {
+fn twice(records: &[Record], index: usize, refusal: u8) -> Damaged {
+    let mut records = records.to_vec();
+    records.insert(index, records[index]);
+    let label = "a barrier or a sleeper twice".to_string();
+    refused(label, file_of(&records), refusal, index + 1)
+}
+
+fn swapped(records: &[Record], index: usize, refusal: u8) -> Damaged {
     let mut records = records.to_vec();
     records.swap(index - 1, index);
-    refused("barriers swapped".to_string(), file_of(&records), 4, index)
+    let label = "barriers or sleepers swapped".to_string();
+    refused(label, file_of(&records), refusal, index)
+}
+
+/// The sleep record may stand there, but not the barrier record behind it.
+fn early_sleeper(records: &[Record], index: usize) -> Damaged {
+    let mut records = records.to_vec();
+    records.insert(index, Record::new(1, OP_SLEEP, 0, 0));
+    let label = "a sleeper in front of a barrier".to_string();
+    refused(label, file_of(&records), 4, index + 1)
+}
+
+fn late_sleeper(records: &[Record], index: usize) -> Damaged {
+    let last = records[0].worker - 1;
+    let mut records = records.to_vec();
+    records.insert(index, Record::new(last, OP_SLEEP, 0, 0));
+    refused("a late sleeper".to_string(), file_of(&records), 14, index)
 }
 
 /// Without its record a barrier has no size at its first use, if it has one.
@@ -414,9 +285,12 @@ pub fn step_129_damages() -> Vec<Damaged> {
         (step(32, 0, 0), 8),
         (step(37, 0, 0), 8),
         (step(38, 0, 0), 8),
-        (step(39, 0, 0), 6),
+        (step(39, 0, 2), 8),
+        (step(39, 0, 3), 8),
+        (step(40, 0, 0), 6),
         (step(0, 0, 0), 3),
         (step(1, 0, 1), 4),
+        (step(2, 0, 0), 14),
     ];
     let mut all = Vec::new();
     for worker in 0..3 {
@@ -433,10 +307,27 @@ pub fn step_129_damages() -> Vec<Damaged> {
 
 fn full_workers(count: usize) -> Draft {
     let own: Vec<Step> = vec![step(16, 0, 0); MOST_STEPS];
-    Draft {
-        barriers: Vec::new(),
-        steps: vec![own; count],
+    Draft::new(&[], vec![own; count])
+}
+
+/// Starts of the workers n − 1 and n, which is one too many, and a start whose
+/// low byte alone would name a worker.
+pub fn start_damages() -> Vec<Damaged> {
+    let mut all = Vec::new();
+    for workers in 1..=MOST_WORKERS {
+        let naming = |number: u16| {
+            let mut steps = vec![Vec::new(); workers];
+            steps[workers - 1] = vec![step(16, 0, 0), step(OP_START, 0, number)];
+            Draft::new(&[], steps)
+        };
+        let last = workers as u16 - 1;
+        all.push(accepted("a start of the last worker", &naming(last)));
+        for number in [last + 1, last + 256] {
+            let label = format!("a start of {number}, n being {workers}");
+            all.push(refused(label, naming(number).file(), 7, 2));
+        }
     }
+    all
 }
 
 /// Skips at and over the border, among full and nearly empty workers.
@@ -473,6 +364,13 @@ pub fn border_files(rng: &mut Rng) -> Vec<Damaged> {
             &Draft::from_rows(&[], &vec![&[][..]; count]),
         ));
         all.push(accepted("workers full of steps", &full_workers(count)));
+        let sleepers: Vec<u8> = (1..count as u8).collect();
+        let sleeping = full_workers(count).asleep(&sleepers);
+        all.push(accepted("all that may sleep do", &sleeping));
+    }
+    for sleeper in 1..MOST_WORKERS as u8 {
+        let one = Draft::new(&[(7, 8)], vec![Vec::new(); MOST_WORKERS]).asleep(&[sleeper]);
+        all.push(accepted("one sleeper", &one));
     }
     for size in 1..=8 {
         let one = Draft::from_rows(&[(0, size), (7, size)], &[&[(37, 0, 7)]]);
@@ -506,6 +404,8 @@ pub fn damaged_files(rng: &mut Rng, doubles: usize) -> Vec<Damaged> {
     let mut all = single_faults(&base);
     all.extend(length_damages(rng, &base));
     all.extend(barrier_damages(&base));
+    all.extend(sleep_damages(&base));
+    all.extend(start_damages());
     all.extend(second_plan_records(&base));
     all.extend(step_129_damages());
     all.extend(skip_damages());
@@ -515,6 +415,10 @@ pub fn damaged_files(rng: &mut Rng, doubles: usize) -> Vec<Damaged> {
         let kind = rng.pick(&PlanKind::SMALL);
         let draft = plan(rng, kind);
         all.push(fuzzed(rng, &draft));
+    }
+    for kind in [PlanKind::Longest, PlanKind::FullLog] {
+        let draft = plan(rng, kind);
+        all.extend((0..4).map(|_| lengthened(rng, &draft)));
     }
     all
 }

@@ -13,10 +13,7 @@ pub fn deep(rng: &mut Rng) -> Draft {
         let place = rng.below(divers + 1);
         steps.insert(place, waker(rng));
     }
-    Draft {
-        barriers: vec![(3, 1), (5, 2)],
-        steps,
-    }
+    Draft::new(&[(3, 1), (5, 2)], steps)
 }
 
 /// Locks to a depth, then a wait at times, then what a count lets fail or

@@ -26,10 +26,7 @@ pub fn long_queues(rng: &mut Rng) -> Draft {
     };
     let steps = (0..workers).map(row).collect();
     let size = rng.between(workers - 2, workers) as u16;
-    Draft {
-        barriers: vec![(met as u8, size), (PAUSE as u8, 1)],
-        steps,
-    }
+    Draft::new(&[(met as u8, size), (PAUSE as u8, 1)], steps)
 }
 
 /// So many rounds without any other effect.

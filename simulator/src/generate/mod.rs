@@ -7,12 +7,14 @@ pub mod buffers;
 pub mod damage;
 pub mod deep;
 pub mod draft;
+pub mod faults;
 pub mod last_turn;
 pub mod long_queues;
 pub mod plans;
 pub mod rng;
 pub mod scenario;
 pub mod script;
+pub mod starts;
 pub mod turns;
 
 pub use damage::{damaged_files, showcase, Damaged};

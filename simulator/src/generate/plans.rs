@@ -7,6 +7,7 @@ use crate::generate::draft::{step, Draft};
 use crate::generate::long_queues::long_queues;
 use crate::generate::rng::Rng;
 use crate::generate::script::{add_skips, script, Taste, BLOCKS};
+use crate::generate::starts::{add_starts, sleepers, sleepers_at_times, with_sleepers};
 
 /// What a random plan is about.
 #[derive(Clone, Copy, Debug, PartialEq, Eq)]
@@ -29,9 +30,12 @@ pub enum PlanKind {
     Mixed,
     /// Steps drawn one by one.
     Loose,
-    /// The longest file: 1,033 records.
+    /// Sleepers and many starts.
+    Starts,
+    /// The longest file: 1,040 records.
     Longest,
-    /// The longest log: 1,032 records, in as many moves as can be.
+    /// The longest log: 1,032 records; without starts, in as many moves as can
+    /// be.
     FullLog,
     /// One worker behind the other, so that rounds go far above 255.
     Relay,
@@ -43,7 +47,7 @@ pub enum PlanKind {
 
 impl PlanKind {
     /// Every kind.
-    pub const ALL: [PlanKind; 14] = [
+    pub const ALL: [PlanKind; 15] = [
         PlanKind::Empty,
         PlanKind::Race,
         PlanKind::Locks,
@@ -53,6 +57,7 @@ impl PlanKind {
         PlanKind::Failures,
         PlanKind::Mixed,
         PlanKind::Loose,
+        PlanKind::Starts,
         PlanKind::Longest,
         PlanKind::FullLog,
         PlanKind::Relay,
@@ -68,7 +73,7 @@ impl PlanKind {
     pub const LONG: [PlanKind; 3] = [PlanKind::Longest, PlanKind::FullLog, PlanKind::Relay];
 
     /// The kinds whose plans stay small.
-    pub const SMALL: [PlanKind; 9] = [
+    pub const SMALL: [PlanKind; 10] = [
         PlanKind::Empty,
         PlanKind::Race,
         PlanKind::Locks,
@@ -78,23 +83,25 @@ impl PlanKind {
         PlanKind::Failures,
         PlanKind::Mixed,
         PlanKind::Loose,
+        PlanKind::Starts,
     ];
 
     /// Weights of the blocks: plain, bump, section, wait, signal, barrier,
-    /// slip, exit, loose.
+    /// slip, exit, loose, start.
     fn weights(self, rng: &mut Rng) -> [usize; BLOCKS] {
         match self {
-            PlanKind::Empty | PlanKind::Race => [6, 4, 1, 0, 0, 0, 0, 0, 0],
-            PlanKind::Locks => [2, 3, 8, 0, 1, 0, 0, 0, 0],
-            PlanKind::Conditions => [1, 1, 2, 5, 7, 0, 0, 0, 0],
-            PlanKind::Barriers => [2, 2, 1, 0, 0, 6, 0, 0, 0],
-            PlanKind::Phases => [3, 3, 2, 0, 1, 0, 0, 0, 0],
-            PlanKind::Failures => [3, 2, 3, 1, 1, 1, 3, 1, 0],
-            PlanKind::Mixed => [3, 3, 4, 2, 3, 2, 1, 1, 1],
-            PlanKind::Loose => [0, 0, 0, 0, 0, 0, 0, 0, 1],
+            PlanKind::Empty | PlanKind::Race => [6, 4, 1, 0, 0, 0, 0, 0, 0, 0],
+            PlanKind::Locks => [2, 3, 8, 0, 1, 0, 0, 0, 0, 1],
+            PlanKind::Conditions => [1, 1, 2, 5, 7, 0, 0, 0, 0, 1],
+            PlanKind::Barriers => [2, 2, 1, 0, 0, 6, 0, 0, 0, 1],
+            PlanKind::Phases => [3, 3, 2, 0, 1, 0, 0, 0, 0, 0],
+            PlanKind::Failures => [3, 2, 3, 1, 1, 1, 3, 1, 0, 1],
+            PlanKind::Mixed => [3, 3, 4, 2, 3, 2, 1, 1, 1, 2],
+            PlanKind::Loose => [0, 0, 0, 0, 0, 0, 0, 0, 1, 0],
+            PlanKind::Starts => [2, 3, 2, 1, 2, 2, 1, 1, 0, 8],
             // Half of the long plans hold nothing that stops a worker early.
-            PlanKind::Longest if rng.chance(1, 2) => [4, 4, 6, 0, 4, 0, 0, 0, 0],
-            PlanKind::Longest => [12, 12, 18, 2, 14, 2, 0, 0, 0],
+            PlanKind::Longest if rng.chance(1, 2) => [4, 4, 6, 0, 4, 0, 0, 0, 0, 0],
+            PlanKind::Longest => [12, 12, 18, 2, 14, 2, 0, 0, 0, 2],
             PlanKind::FullLog | PlanKind::Relay => [0; BLOCKS],
             PlanKind::Deep | PlanKind::LongQueues => [0; BLOCKS],
         }
@@ -112,15 +119,29 @@ pub fn plan(rng: &mut Rng, kind: PlanKind) -> Draft {
     match kind {
         PlanKind::Longest => longest(rng),
         PlanKind::FullLog => full_log(rng),
+        PlanKind::Relay if rng.chance(1, 2) => chain(rng),
         PlanKind::Relay => relay(rng),
         PlanKind::Phases => phases(rng),
-        PlanKind::Deep => deep(rng),
-        PlanKind::LongQueues => long_queues(rng),
+        PlanKind::Deep => {
+            let draft = deep(rng);
+            with_sleepers(rng, draft)
+        }
+        PlanKind::LongQueues => {
+            let draft = long_queues(rng);
+            with_sleepers(rng, draft)
+        }
         _ => small(rng, kind),
     }
 }
 
-fn taste(rng: &mut Rng, kind: PlanKind, barriers: &[(u8, u16)]) -> Taste {
+/// Taste for the scripts of a plan with these barriers, workers and sleepers.
+fn taste(
+    rng: &mut Rng,
+    kind: PlanKind,
+    barriers: &[(u8, u16)],
+    workers: usize,
+    sleepers: &[u8],
+) -> Taste {
     let home = rng.below(ADDRESSES.len() - 3);
     let mut addresses: Vec<u16> = ADDRESSES[home..home + rng.between(1, 3)].to_vec();
     if rng.chance(1, 2) {
@@ -137,6 +158,8 @@ fn taste(rng: &mut Rng, kind: PlanKind, barriers: &[(u8, u16)]) -> Taste {
         addresses,
         barriers: barriers.iter().map(|&(name, _)| u16::from(name)).collect(),
         conditions,
+        workers: workers as u16,
+        sleepers: sleepers.iter().map(|&each| u16::from(each)).collect(),
         weights: kind.weights(rng),
     }
 }
@@ -183,9 +206,16 @@ fn length(rng: &mut Rng) -> usize {
 }
 
 fn small(rng: &mut Rng, kind: PlanKind) -> Draft {
-    let workers = worker_count(rng);
+    let workers = match kind {
+        PlanKind::Starts => rng.between(2, MOST_WORKERS),
+        _ => worker_count(rng),
+    };
+    let sleepers = match kind {
+        PlanKind::Starts => sleepers(rng, workers),
+        _ => sleepers_at_times(rng, workers),
+    };
     let sizes = barriers(rng, workers, 3);
-    let taste = taste(rng, kind, &sizes);
+    let taste = taste(rng, kind, &sizes, workers, &sleepers);
     let mut steps = Vec::new();
     for _ in 0..workers {
         let empty = kind == PlanKind::Empty && rng.chance(3, 4);
@@ -195,10 +225,9 @@ fn small(rng: &mut Rng, kind: PlanKind) -> Draft {
         add_skips(rng, &mut own, skips);
         steps.push(own);
     }
-    Draft {
-        barriers: sizes,
-        steps,
-    }
+    let mut draft = Draft::new(&sizes, steps).asleep(&sleepers);
+    add_starts(rng, &mut draft);
+    draft
 }
 
 /// All workers meet the same barriers; their size is mostly n.
@@ -216,7 +245,7 @@ fn phases(rng: &mut Rng) -> Draft {
             (2 * name, size)
         })
         .collect();
-    let taste = taste(rng, PlanKind::Phases, &sizes);
+    let taste = taste(rng, PlanKind::Phases, &sizes, workers, &[]);
     let order: Vec<u16> = (0..rng.between(1, 4))
         .map(|_| rng.pick(&taste.barriers))
         .collect();
@@ -233,10 +262,7 @@ fn phases(rng: &mut Rng) -> Draft {
             own.push(step(37, 0, barrier));
         }
     }
-    Draft {
-        barriers: sizes,
-        steps,
-    }
+    with_sleepers(rng, Draft::new(&sizes, steps))
 }
 
 /// Unlocks what the steps leave locked when all of them are run.
@@ -247,12 +273,13 @@ fn close(steps: &mut Vec<Step>) {
     }
 }
 
-/// Eight workers with 128 steps each and eight barriers.
+/// Eight workers with 128 steps each, eight barriers and seven sleepers.
 fn longest(rng: &mut Rng) -> Draft {
     let sizes: Vec<(u8, u16)> = (0..QUEUES as u8)
         .map(|name| (name, barrier_size(rng, MOST_WORKERS)))
         .collect();
-    let taste = taste(rng, PlanKind::Longest, &sizes);
+    let sleepers: Vec<u8> = (1..MOST_WORKERS as u8).collect();
+    let taste = taste(rng, PlanKind::Longest, &sizes, MOST_WORKERS, &sleepers);
     let mut steps = Vec::new();
     for _ in 0..MOST_WORKERS {
         let mut own = script(rng, &taste, MOST_STEPS);
@@ -261,28 +288,31 @@ fn longest(rng: &mut Rng) -> Draft {
         }
         steps.push(own);
     }
-    Draft {
-        barriers: sizes,
-        steps,
-    }
+    let mut draft = Draft::new(&sizes, steps).asleep(&sleepers);
+    add_starts(rng, &mut draft);
+    draft
 }
 
 /// Eight workers with 128 synchronising steps each, none of which fails,
-/// waits or queues, so that each worker adds 129 log records.
+/// waits or queues, so that each worker adds 129 log records. In half of the
+/// plans the first worker starts all others.
 fn full_log(rng: &mut Rng) -> Draft {
     let only_signals = rng.chance(1, 3);
+    let sleepers: Vec<u8> = match rng.chance(1, 2) {
+        true => (1..MOST_WORKERS as u8).collect(),
+        false => Vec::new(),
+    };
     let mut steps = vec![Vec::new(); MOST_WORKERS];
+    let start = |&sleeper| step(39, 0, u16::from(sleeper));
+    steps[0] = sleepers.iter().map(start).collect();
     for own in &mut steps {
         while own.len() < MOST_STEPS {
             let room = MOST_STEPS - own.len();
-            let kind = if only_signals { 0 } else { rng.below(5) };
+            let kind = if only_signals { 0 } else { rng.below(6) };
             full_log_block(rng, own, kind, room);
         }
     }
-    Draft {
-        barriers: vec![(7, 1)],
-        steps,
-    }
+    Draft::new(&[(7, 1)], steps).asleep(&sleepers)
 }
 
 fn full_log_block(rng: &mut Rng, own: &mut Vec<Step>, kind: usize, room: usize) {
@@ -295,6 +325,7 @@ fn full_log_block(rng: &mut Rng, own: &mut Vec<Step>, kind: usize, room: usize) 
         }
         3 => own.push(step(37, 0, 7)),
         4 => own.push(step(36, 0, condition)),
+        5 => own.push(step(39, 0, rng.below(MOST_WORKERS) as u16)),
         _ => own.push(step(35, 0, condition)),
     }
 }
@@ -319,8 +350,26 @@ fn relay(rng: &mut Rng) -> Draft {
         }
         own
     });
-    Draft {
-        steps: steps.collect(),
-        barriers: (0..last as u8).map(|name| (name, 2)).collect(),
-    }
+    let sizes: Vec<(u8, u16)> = (0..last as u8).map(|name| (name, 2)).collect();
+    Draft::new(&sizes, steps.collect())
+}
+
+/// Each worker starts the next one after a round for each of its signals, and
+/// exits at once or has a round more beside it.
+fn chain(rng: &mut Rng) -> Draft {
+    let workers = rng.between(3, MOST_WORKERS);
+    let steps = (1..=workers as u16).map(|next| {
+        let mut own = vec![step(16, 0, 300 + next), step(18, 0, 255)];
+        for _ in 0..rng.between(80, 120) {
+            let condition = rng.below(QUEUES) as u16;
+            own.push(step(rng.pick(&[35, 36]), 0, condition));
+        }
+        if next < workers as u16 {
+            own.push(step(39, 0, next));
+        }
+        own.extend(rng.chance(1, 2).then(|| step(35, 0, 0)));
+        own
+    });
+    let sleepers: Vec<u8> = (1..workers as u8).collect();
+    Draft::new(&[], steps.collect()).asleep(&sleepers)
 }

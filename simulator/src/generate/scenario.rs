@@ -2,7 +2,7 @@
 
 use crate::generate::buffers::{memory, noise, wrong_lengths, LENGTHS};
 use crate::generate::damage::{
-    damaged_files, double_fault, fuzzed, showcase, single_fault, Damaged,
+    damaged_files, double_fault, fuzzed, lengthened, showcase, single_fault, Damaged,
 };
 use crate::generate::draft::Draft;
 use crate::generate::last_turn::last_turn_moves;
@@ -106,6 +106,7 @@ impl Scenarios {
             1 => fuzzed(rng, draft),
             2 => single_fault(rng, draft),
             3 => self.damaged[rng.below(self.damaged.len())].clone(),
+            4 if draft.step_count() > 1_000 => lengthened(rng, draft),
             _ => return ("whole".to_string(), draft.file()),
         };
         (damaged.label, damaged.file)

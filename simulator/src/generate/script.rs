@@ -14,12 +14,15 @@ pub struct Taste {
     pub barriers: Vec<u16>,
     /// Conditions in use.
     pub conditions: Vec<u16>,
+    /// Count of workers, and those that sleep at first.
+    pub workers: u16,
+    pub sleepers: Vec<u16>,
     /// How likely each block is, in the order of `Script::block`.
     pub weights: [usize; BLOCKS],
 }
 
 /// Count of kinds of blocks.
-pub const BLOCKS: usize = 9;
+pub const BLOCKS: usize = 10;
 
 /// Values that show carries, differing halves and equal bytes.
 const VALUES: [u16; 12] = [0, 1, 2, 5, 7, 255, 256, 257, 511, 0x0101, 0xFF00, 65_535];
@@ -80,7 +83,8 @@ impl Script<'_> {
             5 => self.barrier(),
             6 => self.slip(),
             7 => self.put(38, 0, 0),
-            _ => self.loose(),
+            8 => self.loose(),
+            _ => self.start(),
         }
     }
 
@@ -129,10 +133,11 @@ impl Script<'_> {
         let number = self.lock_number();
         self.put(32, 0, number);
         for _ in 0..self.rng.below(3) {
-            match self.rng.below(4) {
+            match self.rng.below(5) {
                 0 if depth > 0 => self.section(depth - 1),
                 1 => self.plain(),
                 2 => self.bare_signal(),
+                3 if !self.taste.sleepers.is_empty() => self.bare_start(),
                 _ => self.bump(),
             }
         }
@@ -181,6 +186,35 @@ impl Script<'_> {
         self.put(33, 0, 1);
     }
 
+    /// A start, mostly of one that sleeps at first.
+    fn bare_start(&mut self) {
+        let anybody = self.taste.sleepers.is_empty() || self.rng.chance(1, 4);
+        let target = match anybody {
+            true => self.rng.below(usize::from(self.taste.workers)) as u16,
+            false => self.rng.pick(&self.taste.sleepers),
+        };
+        self.put(39, 0, target);
+    }
+
+    /// A start or several, and what the holder does with the token it kept:
+    /// its own steps, a lock that commits again, or any other way on.
+    fn start(&mut self) {
+        for _ in 0..self.rng.between(1, 3) {
+            self.bare_start();
+            if self.rng.chance(1, 3) {
+                self.bump();
+            }
+        }
+        match self.rng.below(6) {
+            0 => self.bump(),
+            1 => self.section(0),
+            2 => self.barrier(),
+            3 => self.bare_signal(),
+            4 => self.wait(),
+            _ => {}
+        }
+    }
+
     fn barrier(&mut self) {
         match self.taste.barriers.is_empty() {
             true => self.plain(),
@@ -217,7 +251,7 @@ impl Script<'_> {
     fn loose(&mut self) {
         let lock = self.lock_number();
         let condition = self.rng.pick(&self.taste.conditions);
-        match self.rng.below(18) {
+        match self.rng.below(20) {
             0 | 1 => self.put(32, 0, lock),
             2 | 3 => self.put(33, 0, lock),
             4 if self.rng.chance(1, 2) => self.put(34, 0, condition),
@@ -228,6 +262,7 @@ impl Script<'_> {
                 let (register, value) = (self.register(), self.value());
                 self.put(16, register, value);
             }
+            11 | 12 => self.bare_start(),
             _ => self.plain(),
         }
     }

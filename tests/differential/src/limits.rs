@@ -8,6 +8,7 @@ mod pages;
 mod queues;
 mod refusals;
 mod skips;
+mod starts;
 mod totals;
 
 use simulator::format::MEMORY_LENGTH;
@@ -43,6 +44,7 @@ pub fn all() -> Vec<Limit> {
         queues::all(),
         refusals::all(),
         skips::all(),
+        starts::all(),
         totals::all(),
     ];
     parts.into_iter().flatten().collect()
@@ -60,10 +62,7 @@ fn times(count: usize, op: u8, number: u16) -> Vec<Step> {
 }
 
 fn draft(barriers: &[(u8, u16)], steps: Vec<Vec<Step>>) -> Draft {
-    Draft {
-        barriers: barriers.to_vec(),
-        steps,
-    }
+    Draft::new(barriers, steps)
 }
 
 fn plan_of(draft: &Draft) -> Plan {

@@ -1,5 +1,7 @@
 //! Cutting a failing call down to a small one that still fails.
 
+use simulator::format::{OP_BARRIER_SIZE, OP_START};
+
 use crate::call::Call;
 
 /// Shrinking ends after so much work, a try being as much work as it has
@@ -100,23 +102,36 @@ impl Shrinker<'_> {
     }
 }
 
-/// The call without a worker; those above it are named one lower.
+/// The call without a worker, its sleep record and the starts of it; those
+/// above it are named one lower.
 fn without_worker(call: &Call, worker: u8) -> Call {
     let mut candidate = call.clone();
     candidate.file = call.file[..RECORD].to_vec();
     candidate.file[2] -= 1;
     for record in call.file[RECORD..].chunks(RECORD) {
-        let is_step = record.len() == RECORD && record[3] > 1;
-        if is_step && record[2] == worker {
-            continue;
-        }
-        let start = candidate.file.len();
-        candidate.file.extend_from_slice(record);
-        if is_step && record[2] > worker {
-            candidate.file[start + 2] -= 1;
-        }
+        candidate.file.extend(record_without(record, worker));
     }
     let others = call.turns.iter().filter(|turn| **turn != worker);
     candidate.turns = others.map(|turn| turn - u8::from(*turn > worker)).collect();
     candidate
+}
+
+/// A record behind the first in a plan without a worker; nothing if it is that
+/// worker's or a start of it. A barrier record names no worker.
+fn record_without(record: &[u8], worker: u8) -> Vec<u8> {
+    let mut left = record.to_vec();
+    let &[_, _, own, op, _, number, _] = record else {
+        return left;
+    };
+    if op == OP_BARRIER_SIZE {
+        return left;
+    }
+    if own == worker || (op == OP_START && number == worker) {
+        return Vec::new();
+    }
+    left[2] -= u8::from(own > worker);
+    if op == OP_START {
+        left[5] -= u8::from(number > worker);
+    }
+    left
 }

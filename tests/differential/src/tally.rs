@@ -7,6 +7,7 @@ mod operands;
 mod queues;
 mod records;
 mod reports;
+mod sleepers;
 
 use simulator::format::LOG_RECORD_LENGTH;
 use simulator::generate::{ListKind, PlanKind, TurnKind};
@@ -14,8 +15,9 @@ use simulator::Counts;
 
 use crate::call::{Call, Verdict};
 use limits::Limits;
+use sleepers::Share;
 
-const OUTCOMES: [&str; 17] = [
+const OUTCOMES: [&str; 21] = [
     "lock, count 1",
     "lock, count above 1",
     "unlock, count 0",
@@ -33,15 +35,20 @@ const OUTCOMES: [&str; 17] = [
     "wait failed",
     "barrier failed",
     "exit failed",
+    "start of a sleeper, count 0",
+    "start of a sleeper, count above 0",
+    "start of no sleeper, count 0",
+    "start of no sleeper, count above 0",
 ];
 
 const ENDS: [&str; 3] = ["going", "finished", "stuck"];
-const FATES: [&str; 5] = [
+const FATES: [&str; 6] = [
     "going",
     "exited",
     "failed",
     "on a condition",
     "at a barrier",
+    "asleep",
 ];
 
 /// Counts over all calls.
@@ -53,14 +60,15 @@ pub struct Tally {
     outcomes: [u64; OUTCOMES.len()],
     ends: [u64; ENDS.len()],
     fates: [u64; FATES.len()],
-    run_answers: [u64; 14],
-    check_answers: [u64; 11],
+    run_answers: [u64; 15],
+    check_answers: [u64; 15],
     lists: [u64; TurnKind::ALL.len() + 3],
     plans: [u64; PlanKind::ALL.len()],
     late_rounds: u64,
     rounds: u64,
     vast: u64,
     tiny: u64,
+    share: Share,
     limits: Limits,
 }
 
@@ -82,8 +90,13 @@ impl Tally {
         }
         self.tried.add(&verdict.counts);
         let log = verdict.log.chunks_exact(LOG_RECORD_LENGTH);
+        let mut held = [0; 8];
         for record in log.take(verdict.log_records()) {
-            self.outcomes[outcome_kind(record[5], record[7])] += 1;
+            let count = &mut held[usize::from(record[4])];
+            self.outcomes[outcome_kind(record[5], record[7], *count)] += 1;
+            if matches!(record[5], 32 | 33) {
+                *count = record[7];
+            }
             self.late_rounds += u64::from(record[3] != 0);
         }
         self.ends[usize::from(verdict.report[0])] += 1;
@@ -93,7 +106,8 @@ impl Tally {
     }
 
     /// The kinds of an accepted or refused random call.
-    pub fn kinds(&mut self, plan: PlanKind, list: ListKind) {
+    pub fn kinds(&mut self, file: &[u8], plan: PlanKind, list: ListKind) {
+        self.share.note(file);
         let all = TurnKind::ALL;
         let place = match list {
             ListKind::Made(kind) => all.iter().position(|&each| each == kind),
@@ -132,16 +146,19 @@ impl Tally {
         }
         let zero = rows.into_iter().filter(|(_, count)| *count == 0);
         let missing = boards.iter().flat_map(|board| board.missing());
-        zero.map(|(name, _)| name).chain(missing).collect()
+        let names = zero.map(|(name, _)| name).chain(missing);
+        names.chain(self.share.too_small()).collect()
     }
 
     /// All rows but those of limits.
     fn rows(&self, with_runs: bool) -> Vec<(String, u64)> {
-        let mut rows = numbered("check: ", &self.check_answers);
+        let of_check = |&(number, _): &(usize, u64)| !OF_RUNS.contains(&number);
+        let mut rows = numbered("check: ", &self.check_answers, of_check);
+        rows.extend(self.share.rows());
         if !with_runs {
             return rows;
         }
-        rows.extend(numbered("run: ", &self.run_answers));
+        rows.extend(numbered("run: ", &self.run_answers, |_| true));
         rows.extend(self.tried.rows());
         rows.extend(named("outcome: ", &OUTCOMES, &self.outcomes));
         rows.extend(named("end: ", &ENDS, &self.ends));
@@ -170,15 +187,25 @@ fn named(prefix: &str, names: &[impl AsRef<str>], counts: &[u64]) -> Vec<(String
     names.iter().zip(counts).map(row).collect()
 }
 
-fn numbered(prefix: &str, counts: &[u64]) -> Vec<(String, u64)> {
-    let row = |(number, count): (usize, &u64)| match number {
-        0 => (format!("{prefix}accepted"), *count),
-        _ => (format!("{prefix}refusal {number}"), *count),
+/// Refusals that no check gives.
+const OF_RUNS: [usize; 3] = [11, 12, 13];
+
+/// A row for each of the answers that can be.
+fn numbered(
+    prefix: &str,
+    counts: &[u64],
+    can_be: impl Fn(&(usize, u64)) -> bool,
+) -> Vec<(String, u64)> {
+    let row = |(number, count): (usize, u64)| match number {
+        0 => (format!("{prefix}accepted"), count),
+        _ => (format!("{prefix}refusal {number}"), count),
     };
-    counts.iter().enumerate().map(row).collect()
+    let all = counts.iter().copied().enumerate();
+    all.filter(can_be).map(row).collect()
 }
 
-fn outcome_kind(op: u8, outcome: u8) -> usize {
+/// The place of an outcome of a worker with this count before the step.
+fn outcome_kind(op: u8, outcome: u8, count: u8) -> usize {
     match (op, outcome) {
         (33, 254) => 13,
         (34, 254) => 14,
@@ -196,6 +223,8 @@ fn outcome_kind(op: u8, outcome: u8) -> usize {
         (37, 0) => 9,
         (37, 1) => 10,
         (37, _) => 11,
+        (39, 1) => 17 + usize::from(count > 0),
+        (39, _) => 19 + usize::from(count > 0),
         _ => 12,
     }
 }

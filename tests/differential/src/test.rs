@@ -157,7 +157,8 @@ impl Test {
     /// The random call of a seed.
     pub fn random(&mut self, source: &Scenarios, seed: u64) -> Done {
         let scenario = source.of(seed);
-        self.tally.kinds(scenario.plan, scenario.list);
+        self.tally
+            .kinds(&scenario.file, scenario.plan, scenario.list);
         let label = scenario.label.clone();
         self.try_call(&label, &call_of(scenario))
     }

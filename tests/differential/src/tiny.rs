@@ -5,6 +5,8 @@ use simulator::generate::Draft;
 type Row = &'static [(u8, u8, u16)];
 /// Barriers with their sizes, and the steps of so many workers.
 type Sketch<const WORKERS: usize> = (&'static [(u8, u16)], [Row; WORKERS]);
+/// Workers that sleep at first, and the steps of so many.
+type Sleeping<const WORKERS: usize> = (&'static [u8], [Row; WORKERS]);
 
 /// A tiny plan and the length up to which all its turn lists are played.
 pub struct Tiny {
@@ -23,6 +25,14 @@ const MEETING: Row = &[(37, 0, 1)];
 const FAILING: Row = &[(18, 0, 0), (33, 0, 0)];
 const SKIPPING: Row = &[(21, 0, 1), (38, 0, 0)];
 const ADDING: Row = &[(17, 0, 0), (16, 1, 1), (19, 0, 1), (18, 0, 0)];
+const STARTS_1: Row = &[(39, 0, 1)];
+const STARTS_2: Row = &[(39, 0, 2)];
+const STARTS_TWICE: Row = &[(39, 0, 1), (39, 0, 1)];
+const STARTS_ITSELF: Row = &[(18, 0, 255), (39, 0, 0), (35, 0, 2)];
+const LOCKED_START: Row = &[(32, 0, 0), (39, 0, 1), (33, 0, 0)];
+const START_AND_LOCK: Row = &[(39, 0, 1), (18, 1, 0), (32, 0, 0), (33, 0, 0)];
+const START_AND_SIGNAL: Row = &[(39, 0, 1), (35, 0, 2)];
+const START_AND_MEET: Row = &[(39, 0, 2), (37, 0, 1)];
 
 /// The plans.
 pub fn plans() -> Vec<Tiny> {
@@ -49,15 +59,51 @@ pub fn plans() -> Vec<Tiny> {
     let mut all = vec![tiny(&[], &[ADDING], 12)];
     all.extend(pairs.map(|(sizes, rows)| tiny(sizes, &rows, 12)));
     all.extend(triples.map(|(sizes, rows)| tiny(sizes, &rows, 8)));
+    all.extend(sleeping());
     // Two are waiting at a broadcast after eight moves.
     all.push(tiny(&[], &[WAITER, WAITER, BROADCASTER], 9));
     all
 }
 
+/// Plans with sleepers.
+fn sleeping() -> Vec<Tiny> {
+    let pairs: [Sleeping<2>; 8] = [
+        (&[1], [SECTION, STORE]),
+        (&[1], [STARTS_1, STORE]),
+        (&[1], [STARTS_TWICE, SECTION]),
+        (&[1], [STARTS_ITSELF, STORE]),
+        (&[1], [LOCKED_START, STARTS_1]),
+        (&[1], [START_AND_LOCK, STORE]),
+        (&[1], [START_AND_SIGNAL, WAKER]),
+        (&[], [STARTS_1, WAKER]),
+    ];
+    let triples: [Sleeping<3>; 4] = [
+        (&[1, 2], [STARTS_1, STARTS_2, &[]]),
+        (&[2], [MEETING, START_AND_MEET, &[]]),
+        (&[2], [STARTS_2, STARTS_2, &[]]),
+        (&[1], [START_AND_SIGNAL, &[], &[]]),
+    ];
+    let mut all = Vec::new();
+    all.extend(pairs.map(|(sleepers, rows)| asleep(sleepers, &rows, 12)));
+    all.extend(triples.map(|(sleepers, rows)| asleep(sleepers, &rows, 8)));
+    all
+}
+
 fn tiny(sizes: &[(u8, u16)], rows: &[Row], length: usize) -> Tiny {
+    let draft = Draft::from_rows(sizes, rows);
+    of_draft(&draft, length)
+}
+
+/// A plan with sleepers; its barrier is one of two workers.
+fn asleep(sleepers: &[u8], rows: &[Row], length: usize) -> Tiny {
+    let draft = Draft::from_rows(&[(1, 2)], rows).asleep(sleepers);
+    of_draft(&draft, length)
+}
+
+fn of_draft(draft: &Draft, length: usize) -> Tiny {
     Tiny {
-        file: Draft::from_rows(sizes, rows).file(),
-        workers: rows.len(),
+        file: draft.file(),
+        workers: draft.workers(),
         length,
     }
 }

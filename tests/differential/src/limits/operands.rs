@@ -33,7 +33,8 @@ fn by_number(number: u16) -> Vec<Limit> {
     all
 }
 
-/// Each worker carries out every op but a wait, on addresses of its own.
+/// Each worker carries out every op but a wait, on addresses of its own; it
+/// starts the next worker and itself, and nobody sleeps.
 fn every_op(workers: usize) -> Draft {
     let row = |worker: u16| {
         let at = 250 * worker;
@@ -46,6 +47,8 @@ fn every_op(workers: usize) -> Draft {
             step(35, 0, worker),
             step(33, 0, worker),
         ]);
+        let next = (worker + 1) % workers as u16;
+        own.extend([step(39, 0, next), step(18, 1, at + 70), step(39, 0, worker)]);
         own.extend([step(36, 0, worker), step(37, 0, worker), step(38, 0, 0)]);
         own
     };

@@ -16,6 +16,7 @@ pub fn all() -> Vec<Limit> {
     let signals = draft(&[], vec![times(128, 36, 0); 8]);
     let locks = draft(&[], vec![times(128, 32, 15); 8]);
     let relay = relay();
+    let chain = chain();
     let mut all = Vec::new();
     all.extend(cuts(
         &signals,
@@ -28,6 +29,7 @@ pub fn all() -> Vec<Limit> {
         &[255, 256, 257, 511, 512, 1_031, 1_032],
     ));
     all.extend(cuts(&relay, ROUNDS, &[255, 256, 257, 511, 512, 1_018]));
+    all.extend(cuts(&chain, ROUNDS, &[1_024, 1_025]));
     all.extend(played("a longest log", &locks));
     all.extend(played("a longest log", &signals));
     all.extend(played("kept over many rounds", &kept_over_rounds()));
@@ -53,6 +55,19 @@ fn relay() -> Draft {
     draft(&sizes, (0..8).map(row).collect())
 }
 
+/// The most rounds: each worker has one for each of its signals, starts the
+/// next worker in the round of its end, and has left when that one comes.
+fn chain() -> Draft {
+    let row = |worker: u16| {
+        let mut own = times(128, 35, worker);
+        if worker < 7 {
+            own[127] = step(39, 0, worker + 1);
+        }
+        own
+    };
+    draft(&[], (0..8).map(row).collect()).asleep(&[1, 2, 3, 4, 5, 6, 7])
+}
+
 /// The shortest lists of a plan's moves that bring a number of the report to
 /// each of these.
 fn cuts(draft: &Draft, at: usize, numbers: &[u16]) -> Vec<Limit> {
@@ -76,11 +91,18 @@ fn cuts(draft: &Draft, at: usize, numbers: &[u16]) -> Vec<Limit> {
 
 /// Eight workers whose 1,024 steps all differ, and so many barrier records in
 /// front of them: every other step stores a word of its own to its own place.
+/// As many workers sleep as there are barriers, or all that may; a start of
+/// each takes the place of a step of the first worker.
 fn all_different(barriers: u8) -> Draft {
     let pair = |place: u16| [step(16, 0, 31 * place + 7), step(18, 0, 4 * place)];
     let own = |worker: u16| (64 * worker..64 * worker + 64).flat_map(pair).collect();
     let sizes: Vec<(u8, u16)> = (8 - barriers..8).map(|barrier| (barrier, 3)).collect();
-    draft(&sizes, (0..8).map(own).collect())
+    let mut steps: Vec<Vec<Step>> = (0..8).map(own).collect();
+    let sleepers: Vec<u8> = (8 - barriers.min(7)..8).collect();
+    for &sleeper in &sleepers {
+        steps[0][16 * usize::from(sleeper)] = step(39, 0, u16::from(sleeper));
+    }
+    draft(&sizes, steps).asleep(&sleepers)
 }
 
 /// A relay that takes more than 700 rounds. Registers are set in the first one and

@@ -9,24 +9,27 @@ use crate::call::Call;
 /// Record indices around those of one byte.
 const INDICES: [u32; 3] = [255, 256, 257];
 
+/// Refusals that name a record.
+const REFUSALS: [u32; 10] = [2, 3, 4, 5, 6, 7, 8, 9, 10, 14];
+
 /// The last record that a refusal can name. Nine comes no later, since a file
-/// of 1,033 records without a refusal before has a size for every barrier.
+/// of 1,040 records without a refusal before has a size for every barrier.
 fn last_record(refusal: u32) -> u32 {
     match refusal {
-        9 => 1_031,
-        _ => 1_032,
+        9 => 1_038,
+        _ => 1_039,
     }
 }
 
 /// Rows of the answers of a check.
-pub const CHECK_ROWS: [Row; 3] = [
+pub const CHECK_ROWS: [Row; 5] = [
     Row {
         name: "check: refusal at record",
-        members: 36,
+        members: 4 * REFUSALS.len(),
         named: refusal_and_record,
     },
     Row {
-        name: "check: accepted, 1,033 records",
+        name: "check: accepted, 1,040 records",
         members: 1,
         named: |_| "not met".to_string(),
     },
@@ -35,13 +38,23 @@ pub const CHECK_ROWS: [Row; 3] = [
         members: 9,
         named: |place| place.to_string(),
     },
+    Row {
+        name: "check: accepted, sleep records",
+        members: 8,
+        named: |place| place.to_string(),
+    },
+    Row {
+        name: "check: accepted, sleeper",
+        members: 7,
+        named: |place| format!("worker {}", place + 1),
+    },
 ];
 
 /// Rows of the answers of a run.
 pub const RUN_ROWS: [Row; 4] = [
     Row {
         name: "run: refusal at record",
-        members: 36,
+        members: 4 * REFUSALS.len(),
         named: refusal_and_record,
     },
     Row {
@@ -67,7 +80,7 @@ pub const RUN_ROWS: [Row; 4] = [
 const BUFFERS: [&str; 4] = ["memory", "log", "report", "work"];
 
 fn refusal_and_record(place: usize) -> String {
-    let refusal = place as u32 / 4 + 2;
+    let refusal = REFUSALS[place / 4];
     let record = match INDICES.get(place % 4) {
         Some(&index) => index,
         None => last_record(refusal),
@@ -92,9 +105,8 @@ fn place_of(answer: u32) -> Option<usize> {
         None if index == last_record(refusal) => 3,
         None => return None,
     };
-    (2..=10)
-        .contains(&refusal)
-        .then(|| (refusal as usize - 2) * 4 + record)
+    let row = REFUSALS.iter().position(|&each| each == refusal)?;
+    Some(4 * row + record)
 }
 
 /// Notes the answer of a check.
@@ -105,12 +117,15 @@ pub fn note_check(board: &mut Board, file: &[u8], answer: u32) {
     if answer != 0 {
         return;
     }
-    if file.len() == 1_033 * 7 {
+    if file.len() == 1_040 * 7 {
         board.count(1, 0);
     }
-    let records = file.chunks_exact(7).skip(1);
-    let barriers = records.take_while(|record| record[3] == 1).count();
-    board.count(2, barriers);
+    let of_op = |op: u8| file.chunks_exact(7).filter(move |record| record[3] == op);
+    board.count(2, of_op(1).count());
+    board.count(3, of_op(2).count());
+    for record in of_op(2) {
+        board.count(4, usize::from(record[2]) - 1);
+    }
 }
 
 /// Notes the answer of a run.

@@ -1,29 +1,34 @@
 //! Limits that show in a single log record.
 
+use std::ops::Range;
+
 use simulator::counts::{Board, Row};
 
 use super::reports::{note_number, ROUNDS};
 
-/// What can come of a step, and how many numbers it can have.
-const KINDS: [(&str, usize); 11] = [
-    ("lock", 16),
-    ("unlock", 16),
-    ("unlock failed", 16),
-    ("wait", 8),
-    ("wait failed", 8),
-    ("signal, one woken", 8),
-    ("signal, nobody", 8),
-    ("broadcast, one woken", 8),
-    ("broadcast, nobody", 8),
-    ("barrier, queued", 8),
-    ("barrier failed", 8),
+/// What can come of a step, and the numbers it can have. The first worker
+/// never sleeps.
+const KINDS: [(&str, Range<usize>); 13] = [
+    ("lock", 0..16),
+    ("unlock", 0..16),
+    ("unlock failed", 0..16),
+    ("wait", 0..8),
+    ("wait failed", 0..8),
+    ("signal, one woken", 0..8),
+    ("signal, nobody", 0..8),
+    ("broadcast, one woken", 0..8),
+    ("broadcast, nobody", 0..8),
+    ("barrier, queued", 0..8),
+    ("barrier failed", 0..8),
+    ("start of a sleeper", 1..8),
+    ("start of no sleeper", 0..8),
 ];
 
 /// The rows.
 pub const ROWS: [Row; 2] = [
     Row {
         name: "outcome by number",
-        members: 112,
+        members: 127,
         named: kind_and_number,
     },
     Row {
@@ -35,10 +40,10 @@ pub const ROWS: [Row; 2] = [
 
 fn kind_and_number(mut place: usize) -> String {
     for (kind, numbers) in KINDS {
-        if place < numbers {
-            return format!("{kind}, {place}");
+        if place < numbers.len() {
+            return format!("{kind}, {}", numbers.start + place);
         }
-        place -= numbers;
+        place -= numbers.len();
     }
     String::new()
 }
@@ -57,6 +62,8 @@ fn kind_of(op: u8, outcome: u8) -> Option<usize> {
         (36, _) => Some(7),
         (37, 0) => Some(9),
         (37, 254) => Some(10),
+        (39, 1) => Some(11),
+        (39, _) => Some(12),
         _ => None,
     }
 }
@@ -64,8 +71,9 @@ fn kind_of(op: u8, outcome: u8) -> Option<usize> {
 /// Notes a log record.
 pub fn note(board: &mut Board, record: &[u8]) {
     if let Some(kind) = kind_of(record[5], record[7]) {
-        let before: usize = KINDS[..kind].iter().map(|(_, numbers)| numbers).sum();
-        board.count(0, before + usize::from(record[6]));
+        let before: usize = KINDS[..kind].iter().map(|each| each.1.len()).sum();
+        let number = usize::from(record[6]) - KINDS[kind].1.start;
+        board.count(0, before + number);
     }
     let round = u16::from_le_bytes([record[2], record[3]]);
     note_number(board, 1, &ROUNDS, round);

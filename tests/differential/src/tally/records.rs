@@ -1,7 +1,7 @@
 //! Records that are refused for one field just out of its limits.
 
 use simulator::counts::{Board, Row};
-use simulator::format::{records_of, Record, RECORD_MARK};
+use simulator::format::{records_of, Record, OP_BARRIER_SIZE, OP_SLEEP, RECORD_MARK};
 
 /// A refusal, the record that it names and what stands around it.
 pub struct Seen {
@@ -10,7 +10,7 @@ pub struct Seen {
     pub record: Record,
     /// The record before it; the plan record has itself here.
     before: Record,
-    workers: u8,
+    pub workers: u8,
     /// Steps of the same worker behind it.
     behind: u16,
 }
@@ -19,7 +19,7 @@ impl Seen {
     /// What a refusal with a record index names in a file.
     pub fn new(file: &[u8], answer: u32) -> Option<Self> {
         let (refusal, index) = (answer % 256, (answer / 256) as usize);
-        if !(2..=10).contains(&refusal) {
+        if !matches!(refusal, 2..=10 | 14) {
             return None;
         }
         let records = records_of(file);
@@ -55,7 +55,7 @@ pub fn note(board: &mut Board, row: usize, seen: &Seen) {
     }
 }
 
-const EDGES: [Edge; 28] = [
+const EDGES: [Edge; 38] = [
     ("2, first byte of the mark", |seen| {
         seen.refusal == 2 && seen.record.mark[1] == RECORD_MARK[1]
     }),
@@ -73,13 +73,16 @@ const EDGES: [Edge; 28] = [
     ("4, size 0", |seen| size(seen, |r| r.number == 0)),
     ("4, size 9", |seen| size(seen, |r| r.number == 9)),
     ("4, the same barrier again", |seen| {
-        size(seen, |r| r.register == seen.before.register) && seen.before.op == 1
+        size(seen, |r| r.register == seen.before.register) && seen.before.op == OP_BARRIER_SIZE
     }),
     ("4, the barrier below", |seen| {
-        size(seen, |r| below(r.register, seen.before.register)) && seen.before.op == 1
+        size(seen, |r| below(r.register, seen.before.register)) && seen.before.op == OP_BARRIER_SIZE
     }),
     ("4, behind a step", |seen| {
-        size(seen, |_| seen.before.op > 1)
+        size(seen, |_| seen.before.op > OP_SLEEP)
+    }),
+    ("4, behind a sleep record", |seen| {
+        size(seen, |_| seen.before.op == OP_SLEEP)
     }),
     ("5, worker n", |seen| {
         seen.refusal == 5 && seen.record.worker == seen.workers
@@ -87,11 +90,11 @@ const EDGES: [Edge; 28] = [
     ("5, worker one below", |seen| {
         seen.refusal == 5 && below(seen.record.worker, seen.before.worker)
     }),
-    ("6, op 2", |seen| op(seen, 2)),
+    ("6, op 3", |seen| op(seen, 3)),
     ("6, op 15", |seen| op(seen, 15)),
     ("6, op 23", |seen| op(seen, 23)),
     ("6, op 31", |seen| op(seen, 31)),
-    ("6, op 39", |seen| op(seen, 39)),
+    ("6, op 40", |seen| op(seen, 40)),
     ("6, op 255", |seen| op(seen, 255)),
     ("10, skip if zero, one too far", |seen| skip(seen, 21, 1)),
     ("10, skip if zero, 127, one too far", |seen| {
@@ -105,6 +108,25 @@ const EDGES: [Edge; 28] = [
     }),
     ("10, far too far", |seen| {
         seen.refusal == 10 && seen.record.number > seen.behind + 1
+    }),
+    ("14, worker 0", |seen| sleeper(seen, |r| r.worker == 0)),
+    ("14, worker n", |seen| {
+        sleeper(seen, |r| r.worker == seen.workers)
+    }),
+    ("14, the same worker again", |seen| {
+        sleeper(seen, |r| r.worker == seen.before.worker) && seen.before.op == OP_SLEEP
+    }),
+    ("14, the worker below", |seen| {
+        sleeper(seen, |r| below(r.worker, seen.before.worker)) && seen.before.op == OP_SLEEP
+    }),
+    ("14, register 1", |seen| sleeper(seen, |r| r.register == 1)),
+    ("14, number 1", |seen| sleeper(seen, |r| r.number == 1)),
+    ("14, number 256", |seen| sleeper(seen, |r| r.number == 256)),
+    ("14, behind a step", |seen| {
+        sleeper(seen, |_| seen.before.op > OP_SLEEP)
+    }),
+    ("14, behind the plan record", |seen| {
+        sleeper(seen, |_| seen.index == 1)
     }),
 ];
 
@@ -134,11 +156,26 @@ fn size(seen: &Seen, which: impl Fn(&Record) -> bool) -> bool {
         record.worker != 0,
         record.register > 7,
         !(1..=8).contains(&record.number),
-        before.op == 1 && record.register <= before.register,
-        before.op > 1,
+        before.op == OP_BARRIER_SIZE && record.register <= before.register,
+        before.op > OP_BARRIER_SIZE,
     ];
     let ways = wrong.iter().filter(|&&way| way).count();
     seen.refusal == 4 && ways == 1 && which(record)
+}
+
+/// A sleep record that is wrong in one way, which is this one.
+fn sleeper(seen: &Seen, which: impl Fn(&Record) -> bool) -> bool {
+    let (record, before) = (&seen.record, &seen.before);
+    let wrong = [
+        record.worker == 0,
+        record.worker >= seen.workers,
+        record.register != 0,
+        record.number != 0,
+        before.op == OP_SLEEP && record.worker <= before.worker && record.worker != 0,
+        before.op > OP_SLEEP,
+    ];
+    let ways = wrong.iter().filter(|&&way| way).count();
+    seen.refusal == 14 && ways == 1 && which(record)
 }
 
 fn op(seen: &Seen, op: u8) -> bool {

@@ -1,0 +1,160 @@
+//! Writes inputs of the fuzz target with sleepers and starts.
+//!
+//! `seeds FOLDER`. tests/fuzz/fuzz.c says how an input is laid out. The inputs
+//! are the same each time: `start-N` are plans with their turns, `sleep-N`
+//! files with a fault of a sleep record or of a start, `long-4` a file of the
+//! greatest length and `long-5` one with a record more, `made-starts` and
+//! `made-sleepers` are steps from which the target makes a file.
+
+use std::path::Path;
+use std::process::ExitCode;
+use std::{env, fs};
+
+use simulator::format::{MEMORY_LENGTH, OP_SLEEP, OP_START, RECORD_LENGTH};
+use simulator::generate::damage::{single_faults, sleep_damages, start_damages};
+use simulator::generate::faults::{faults, Fault};
+use simulator::generate::{plan, Damaged, Draft, PlanKind, Rng};
+use simulator::turn_machine::End;
+use simulator::{check, Machine};
+
+/// Flags of an input: the plan's part is the file, memory of many values, each
+/// turn eight times.
+const FILE: u8 = 1;
+const VALUES: u8 = 4;
+const EIGHT_TIMES: u8 = 8;
+
+/// Names no wrong length of a buffer.
+const RIGHT_LENGTHS: u8 = 255;
+
+fn main() -> ExitCode {
+    let [folder] = &env::args().skip(1).collect::<Vec<_>>()[..] else {
+        eprintln!("seeds FOLDER");
+        return ExitCode::FAILURE;
+    };
+    match write_all(Path::new(folder)) {
+        Ok(count) => {
+            println!("{count} inputs");
+            ExitCode::SUCCESS
+        }
+        Err(error) => {
+            eprintln!("seeds: {folder}: {error}");
+            ExitCode::FAILURE
+        }
+    }
+}
+
+fn write_all(folder: &Path) -> std::io::Result<usize> {
+    let mut rng = Rng::new(39);
+    let mut all = Vec::new();
+    all.extend(numbered("start", starts(&mut rng)));
+    all.extend(numbered("sleep", refused()));
+    all.extend(longest(&mut rng));
+    all.extend(made());
+    for (name, bytes) in &all {
+        fs::write(folder.join(name), bytes)?;
+    }
+    Ok(all.len())
+}
+
+type Named = (String, Vec<u8>);
+
+fn numbered(name: &str, inputs: Vec<Vec<u8>>) -> Vec<Named> {
+    let each = |(number, bytes)| (format!("{name}-{number:03}"), bytes);
+    inputs.into_iter().enumerate().map(each).collect()
+}
+
+fn input(flags: u8, plan: &[u8], turns: &[u8]) -> Vec<u8> {
+    let [low, high] = (plan.len() as u16).to_le_bytes();
+    [&[flags, RIGHT_LENGTHS, low, high], plan, turns].concat()
+}
+
+/// Turns of any worker to the end of a plan, or so many of them.
+fn turns(rng: &mut Rng, file: &[u8], most: usize) -> Vec<u8> {
+    let plan = check(file).expect("an accepted plan");
+    let mut machine = Machine::new(&plan, &[0; MEMORY_LENGTH]);
+    let mut list = Vec::new();
+    while machine.end() == End::Going && list.len() < most {
+        let worker = rng.below(plan.workers());
+        machine.turn(worker);
+        list.push(worker as u8);
+    }
+    list
+}
+
+/// Small plans with sleepers, of every small kind.
+fn starts(rng: &mut Rng) -> Vec<Vec<u8>> {
+    let mut all = Vec::new();
+    while all.len() < 48 {
+        let kind = match all.len() % 2 {
+            0 => PlanKind::Starts,
+            _ => rng.pick(&PlanKind::SMALL),
+        };
+        let draft = plan(rng, kind);
+        let file = draft.file();
+        if draft.sleepers.is_empty() || file.len() > 45 * RECORD_LENGTH {
+            continue;
+        }
+        let list = turns(rng, &file, 400);
+        all.push(input(FILE | rng.pick(&[0, VALUES]), &file, &list));
+    }
+    all
+}
+
+/// Sleep records and starts of a small plan that are refused as such, and
+/// barrier records behind a sleep record.
+fn refused() -> Vec<Vec<u8>> {
+    let rows: [&[(u8, u8, u16)]; 3] = [&[(39, 0, 2), (38, 0, 0)], &[(37, 0, 2)], &[]];
+    let draft = Draft::from_rows(&[(2, 2)], &rows).asleep(&[1, 2]);
+    let records = draft.records();
+    let of_request = |fault: &Fault| match records[fault.index].op {
+        OP_SLEEP | OP_START => matches!(fault.refusal, 4 | 7 | 14),
+        _ => fault.refusal == 14,
+    };
+    let single = faults(&draft).into_iter().zip(single_faults(&draft));
+    let single = single.filter(|(fault, _)| of_request(fault));
+    let all = single.map(|(_, damaged)| damaged);
+    let all = all.chain(sleep_damages(&draft)).chain(start_damages());
+    let each = |damaged: Damaged| input(FILE, &damaged.file, &[0, 1, 2, 0, 1]);
+    all.map(each).collect()
+}
+
+fn longest(rng: &mut Rng) -> [Named; 2] {
+    let mut file = plan(rng, PlanKind::Longest).file();
+    let list = turns(rng, &file, 300);
+    let just = input(FILE | EIGHT_TIMES, &file, &list);
+    file.extend_from_within(file.len() - RECORD_LENGTH..);
+    let over = input(FILE | EIGHT_TIMES, &file, &list);
+    [("long-4".to_string(), just), ("long-5".to_string(), over)]
+}
+
+/// Three workers and a barrier of all. In the first the others sleep and are
+/// started, one of them within a lock; in the second nobody starts the last.
+fn made() -> [Named; 2] {
+    let sleeps = 128;
+    let head = [2, 2, sleeps, sleeps, 0, 0, 0, 0, 0];
+    let next_worker = 128;
+    // Op by its place in the target's table, register, number.
+    let (store, lock, unlock, barrier, start) = (2, 7, 8, 12, 14);
+    let starts = [
+        [start, 0, 1, 0],
+        [store, 1, 255, 0],
+        [lock, 0, 3, 0],
+        [start, 0, 2, 0],
+        [unlock, 0, 3, 0],
+        [barrier, 0, 0, 0],
+        [next_worker | start, 0, 0, 0],
+        [barrier, 0, 0, 0],
+        [next_worker | barrier, 0, 0, 0],
+    ];
+    let sleepers = [
+        [start, 0, 1, 0],
+        [start, 0, 1, 0],
+        [next_worker | store, 0, 9, 0],
+    ];
+    let cycles = [0, 1, 2].repeat(12);
+    let of = |name: &str, steps: &[[u8; 4]]| {
+        let plan = [&head[..], &steps.concat()].concat();
+        (name.to_string(), input(VALUES, &plan, &cycles))
+    };
+    [of("made-starts", &starts), of("made-sleepers", &sleepers)]
+}
