@@ -264,26 +264,34 @@ static void token_cases(struct plan_file *f) {
     ends(&case9, f, 2, 6, 0);
 }
 
-/* Sleepers whom nobody starts. They are in no list, their steps never run, and a plan is finished beside them; beside one who
- * waits it is stuck. */
+/* Sleepers whom nobody starts. They are in no list, their steps never run, and a plan is finished beside them. */
 static void sleeper_cases(struct plan_file *f) {
     static const struct expected nobody = {"nobody is started", {7}, 1, 4, 1, 1, {{1, 0, 38, 0, 255}}, {1, 5, 5}};
+    static const struct expected seven = {"seven sleepers", {0}, 1, 2, 1, 1, {{1, 0, 38, 0, 255}}, {1, 5, 5, 5, 5, 5, 5, 5}};
     static const struct expected failed = {"the other one fails", {0}, 1, 2, 1, 1, {{1, 0, 33, 0, 254}}, {2, 5}};
-    static const struct expected waits = {"the other one waits", {0}, 2, 3, 1, 2, {{1, 0, 32, 0, 1}, {1, 0, 34, 0, 255}}, {3, 5}};
     plan_begin(f, 3);
     plan_sleepers(f, 3);
     store_at(f, 0, 7, 0);
     store_at(f, 1, 8, 2);
     ends(&nobody, f, 3, 4, 0);
+    plan_begin(f, 8);
+    plan_sleepers(f, 8);
+    ends(&seven, f, 8, 0, 0);
     plan_begin(f, 2);
     plan_sleep(f, 1);
     plan_sync(f, 0, TAMPERMAUVE_OP_UNLOCK, 0);
     ends(&failed, f, 2, 1, 0);
-    plan_begin(f, 2);
+}
+
+/* Beside one who waits a plan is stuck, whoever sleeps. Worker 0: arrival, end; worker 2: arrival, lock, wait. */
+static void stuck_case(struct plan_file *f) {
+    static const struct expected waits = {"one exits, one sleeps, one waits", {0}, 2, 5, 1, 3,
+        {{1, 0, 38, 0, 255}, {1, 2, 32, 0, 1}, {1, 2, 34, 0, 255}}, {1, 5, 3}};
+    plan_begin(f, 3);
     plan_sleep(f, 1);
-    plan_sync(f, 0, TAMPERMAUVE_OP_LOCK, 0);
-    plan_sync(f, 0, TAMPERMAUVE_OP_WAIT, 0);
-    ends(&waits, f, 2, 2, 0);
+    plan_sync(f, 2, TAMPERMAUVE_OP_LOCK, 0);
+    plan_sync(f, 2, TAMPERMAUVE_OP_WAIT, 0);
+    ends(&waits, f, 3, 2, 0);
 }
 
 /* Worker 0 starts worker 1, starts it once more, stores 5 at 0 and exits, all in one go: arrival, two starts, set, store, end. In
@@ -320,6 +328,22 @@ static void start_cases(struct plan_file *f) {
     plan_sync(f, 1, TAMPERMAUVE_OP_LOCK, 0);
     plan_sync(f, 1, TAMPERMAUVE_OP_WAIT, 0);
     ends(&waits, f, 2, 3, 0);
+}
+
+/* Worker 0 starts 7, who starts 6, and so on down to 1: eight rounds, of an arrival, a start and an end each, but for the last. */
+static void chain_case(struct plan_file *f) {
+    static const struct expected chain = {"a chain of starts", {0}, 1, 23, 8, 15,
+        {{1, 0, 39, 7, 1}, {1, 0, 38, 0, 255}, {2, 7, 39, 6, 1}, {2, 7, 38, 0, 255}, {3, 6, 39, 5, 1}, {3, 6, 38, 0, 255},
+         {4, 5, 39, 4, 1}, {4, 5, 38, 0, 255}, {5, 4, 39, 3, 1}, {5, 4, 38, 0, 255}, {6, 3, 39, 2, 1}, {6, 3, 38, 0, 255},
+         {7, 2, 39, 1, 1}, {7, 2, 38, 0, 255}, {8, 1, 38, 0, 255}}, {1, 1, 1, 1, 1, 1, 1, 1}};
+    unsigned w;
+    plan_begin(f, 8);
+    plan_sleepers(f, 8);
+    plan_sync(f, 0, TAMPERMAUVE_OP_START, 7);
+    for (w = 2; w < 8; w++) {
+        plan_sync(f, w, TAMPERMAUVE_OP_START, w - 1u);
+    }
+    ends(&chain, f, 8, 7, 0);
 }
 
 /* The plan that is started twice, under way. A turn of a sleeper passes. Once started its fate is going, and its turns pass until
@@ -421,6 +445,44 @@ static void commit_cases(struct plan_file *f) {
     store_at(f, 0, 8, 2);
     plan_sync(f, 0, TAMPERMAUVE_OP_EXIT, 0);
     ends(&locks, f, 2, 7, 0);
+}
+
+/* Whose copies a start commits, and that it drops them. */
+static void copies_cases(struct plan_file *f) {
+    /* Worker 1 copies the page before the fence; worker 0 has committed 1 at 0 when worker 1 commits its 5 by a start and loads
+     * from 0 again. set, store, arrival of both; end; start, load, store, end. */
+    static const struct expected drops = {"a load behind a start", {1, 0, 5, 0, 1}, 1, 11, 1, 3,
+        {{1, 0, 38, 0, 255}, {1, 1, 39, 0, 253}, {1, 1, 38, 0, 255}}, {1, 1}};
+    /* The 6 that worker 1 has stored when it is started is its own still, and lost when it fails. Arrival of 0; set, store, arrival;
+     * start, end; failure. */
+    static const struct expected others = {"bytes of a worker that is started", {0}, 1, 7, 1, 3,
+        {{1, 0, 39, 1, 253}, {1, 0, 38, 0, 255}, {1, 1, 33, 0, 254}}, {1, 2}};
+    plan_begin(f, 2);
+    store_at(f, 0, 1, 0);
+    store_at(f, 1, 5, 2);
+    plan_sync(f, 1, TAMPERMAUVE_OP_START, 0);
+    copy_word(f, 1, 0, 4);
+    ends(&drops, f, 2, 7, 0);
+    plan_begin(f, 2);
+    plan_sync(f, 0, TAMPERMAUVE_OP_START, 1);
+    store_at(f, 1, 6, 2);
+    plan_sync(f, 1, TAMPERMAUVE_OP_UNLOCK, 0);
+    ends(&others, f, 2, 4, 0);
+}
+
+/* A start leaves the caller's registers, and a started worker has its own, zero at first: worker 0 stores its 7 at 0 and 2 behind the
+ * start, worker 1 a zero at 0. set, arrival, start, two stores, end; store, arrival, end. */
+static void registers_case(struct plan_file *f) {
+    static const struct expected apart = {"registers at a start", {0, 0, 7}, 1, 9, 2, 3,
+        {{1, 0, 39, 1, 1}, {1, 0, 38, 0, 255}, {2, 1, 38, 0, 255}}, {1, 1}};
+    plan_begin(f, 2);
+    plan_sleep(f, 1);
+    plan_add(f, 0, TAMPERMAUVE_OP_SET, 0, 7);
+    plan_sync(f, 0, TAMPERMAUVE_OP_START, 1);
+    plan_add(f, 0, TAMPERMAUVE_OP_STORE, 0, 0);
+    plan_add(f, 0, TAMPERMAUVE_OP_STORE, 0, 2);
+    plan_add(f, 1, TAMPERMAUVE_OP_STORE, 0, 0);
+    ends(&apart, f, 2, 5, 0);
 }
 
 /* A start with count 1 commits as well, and the count stays. */
@@ -554,11 +616,15 @@ static void full_list_case(struct plan_file *f) {
 
 static void sleeping_cases(struct plan_file *f) {
     sleeper_cases(f);
+    stuck_case(f);
     start_cases(f);
+    chain_case(f);
     going_cases(f);
     awake_case(f);
     waiting_cases(f);
     commit_cases(f);
+    copies_cases(f);
+    registers_case(f);
     locked_cases(f);
     own_steps_case(f);
     next_list_case(f);
