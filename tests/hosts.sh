@@ -51,7 +51,8 @@ plan_record() {
     printf "$(printf '\\115\\120\\%03o\\%03o\\%03o\\%03o\\%03o' "$@")"
 }
 
-# As many records as a file may have: its cycles are as many as host.h has room for. Of its workers only the first is awake.
+# As many records as a file may have; its cycles are as many as host.h has room
+# for. Of its workers only the first is awake.
 longest() {
     echo 8 0 0 0
     for barrier in 0 1 2 3 4 5 6 7; do echo 0 1 $barrier 8; done
