@@ -23,7 +23,8 @@ enum {
     SIGNAL = TAMPERMAUVE_OP_SIGNAL,
     BROADCAST = TAMPERMAUVE_OP_BROADCAST,
     BARRIER = TAMPERMAUVE_OP_BARRIER,
-    EXIT = TAMPERMAUVE_OP_EXIT
+    EXIT = TAMPERMAUVE_OP_EXIT,
+    START = TAMPERMAUVE_OP_START
 };
 
 /* --- Writing plans ------------------------------------------------------ */
@@ -82,6 +83,15 @@ static struct set *new_set(const char *name)
 static struct set_case *set_of_one(const char *name, unsigned workers, unsigned size)
 {
     return new_case(new_set(name), workers, size);
+}
+
+/* The same, and all workers sleep but the first. */
+static struct set_case *set_of_sleepers(const char *name, unsigned size)
+{
+    struct set_case *c = set_of_one(name, WORKERS, size);
+    for (unsigned worker = 1; worker < WORKERS; worker++)
+        put(c, worker, TAMPERMAUVE_OP_SLEEP_RECORD, 0, 0);
+    return c;
 }
 
 /* --- Writing turn lists ------------------------------------------------- */
@@ -276,6 +286,45 @@ static void meeting_sets(void)
     moving_turns(c);
 }
 
+/* Of a worker's starts, the one of this number. The first worker's first seven
+ * reach all sleepers; every other start finds its worker awake. */
+static void put_start(struct set_case *c, unsigned worker, unsigned number)
+{
+    put(c, worker, START, 0, (worker + number + 1) % WORKERS);
+}
+
+static void starts_set(void)
+{
+    struct set_case *c = set_of_sleepers("starts alone", 0);
+    for (unsigned i = 0; i < WORKERS * STEPS; i++)
+        put_start(c, i / STEPS, i % STEPS);
+    moving_turns(c);
+}
+
+/* A value, two stores of it, and a start that commits them. */
+static void starts_and_stores_set(void)
+{
+    struct set_case *c = set_of_sleepers("starts between stores", 0);
+    for (unsigned i = 0; i < WORKERS * STEPS; i++)
+        if (i % 4 == 3)
+            put_start(c, i / STEPS, i % STEPS / 4);
+        else
+            put(c, i / STEPS, i % 4 ? STORE : SET_TO, 0, i * 2 % 2047);
+    moving_turns(c);
+}
+
+/* A start, and a signal that gives up the token. */
+static void starts_and_signals_set(void)
+{
+    struct set_case *c = set_of_sleepers("starts and signals", 0);
+    for (unsigned i = 0; i < WORKERS * STEPS; i++)
+        if (i % 2)
+            put(c, i / STEPS, SIGNAL, 0, i % 8);
+        else
+            put_start(c, i / STEPS, i % STEPS / 2);
+    moving_turns(c);
+}
+
 /* Any step; skips stay short and land within the worker's steps. */
 static void random_step(struct set_case *c, unsigned worker, unsigned left)
 {
@@ -310,7 +359,8 @@ static void random_set(void)
     }
 }
 
-/* Eight workers with 128 steps of every kind that does not stop a worker. */
+/* Eight workers with 128 steps of every kind that does not stop a worker. With
+ * them a file is the longest that has no sleepers. */
 static void mixed_steps(struct set_case *c)
 {
     static const uint8_t part[8][3] = {{SET_TO, 1, 1}, {LOCK, 0, 3}, {LOAD, 0, 255},
@@ -333,6 +383,16 @@ static void long_sets(void)
     c = set_of_one("small file, no turns", 2, 0);
     put(c, 0, LOAD, 0, 2);
     put(c, 1, STORE, 0, 2);
+}
+
+/* Steps of both kinds, starts among them, behind all that may stand before. */
+static void sleepers_check_set(void)
+{
+    static const uint8_t part[4][3] = {{START, 0, 7}, {SET_TO, 3, 1}, {START, 0, 0}, {LOCK, 0, 15}};
+    struct set_case *c = set_of_sleepers("check, longest file with sleepers", 8);
+    for (unsigned i = 0; i < WORKERS * STEPS; i++)
+        put(c, i / STEPS, part[i % 4][0], part[i % 4][1], part[i % 4][2]);
+    all[made - 1].check_only = 1;
 }
 
 static void check_sets(void)
@@ -362,8 +422,12 @@ unsigned make_sets(struct set *sets, int only)
     commit_set();
     section_sets();
     meeting_sets();
+    starts_set();
+    starts_and_stores_set();
+    starts_and_signals_set();
     random_set();
     long_sets();
     check_sets();
+    sleepers_check_set();
     return made;
 }

@@ -10,7 +10,7 @@
 
 enum {
     RECORD = 7,
-    MOST_FILE = 7231,
+    MOST_FILE = 7280,
     MOST_TURNS = 65535,
     MOST_WORKERS = 8,
     MOST_STEPS = 128,
@@ -27,6 +27,7 @@ enum {
 enum {
     OP_PLAN = 0,
     OP_SIZE = 1,
+    OP_SLEEP = 2,
     OP_SET = 16,
     OP_LOAD,
     OP_STORE,
@@ -41,6 +42,7 @@ enum {
     OP_BROADCAST,
     OP_BARRIER,
     OP_EXIT,
+    OP_START,
     OPS
 };
 
@@ -51,9 +53,17 @@ enum { AT_WORKER = 2, AT_OP, AT_REGISTER, AT_NUMBER };
 enum { PASS = 0, TO_FENCE = 1, HOLDS_TOKEN = 2 };
 
 /* Fates, as the report has them. */
-enum { GOING = 0, EXITED, FAILED, ON_CONDITION, AT_BARRIER, NO_WORKER = 255 };
+enum {
+    GOING = 0,
+    EXITED,
+    FAILED,
+    ON_CONDITION,
+    AT_BARRIER,
+    ASLEEP,
+    NO_WORKER = 255
+};
 
-enum { NOBODY = 255, FAILURE = 254 };
+enum { NOBODY = 255, FAILURE = 254, AWAKE = 253, STARTED = 1 };
 
 /* --- The file ---------------------------------------------------------- */
 
@@ -80,6 +90,7 @@ static const struct limits LIMITS[OPS] = {
     [OP_BROADCAST] = {1, 0, 0, 7},
     [OP_BARRIER] = {1, 0, 0, 7},
     [OP_EXIT] = {1, 0, 0, 0},
+    [OP_START] = {1, 0, 0, 7}, /* and a worker of the plan */
 };
 
 /* Where the parts of a plan lie in its file. */
@@ -87,10 +98,12 @@ struct plan {
     unsigned workers;
     unsigned last;                    /* worker of the last step read */
     unsigned last_barrier;            /* one above the last barrier read */
+    unsigned last_sleeper;            /* 0: no sleep record read */
     unsigned reach;                   /* furthest landing of its skips */
     int too_far;                      /* some skip lands too far */
     unsigned first[MOST_WORKERS + 1]; /* index of each worker's first step */
     uint8_t size[QUEUES];             /* 0: a barrier without a size */
+    uint8_t fate[MOST_WORKERS];       /* as the run begins: GOING or ASLEEP */
 };
 
 static unsigned number_of(const uint8_t *record)
@@ -114,16 +127,32 @@ static unsigned read_plan(struct plan *p, const uint8_t *record)
     return 0;
 }
 
-/* first[0] lies right behind the last barrier record, so a barrier record at
- * another index comes after a step. */
+/* first[0] lies right behind the last barrier or sleep record, so one of these
+ * at another index comes after a step. */
 static unsigned read_size(struct plan *p, const uint8_t *record, unsigned index)
 {
     unsigned barrier = record[AT_REGISTER], size = number_of(record);
     if (index != p->first[0] || record[AT_WORKER] != 0 || barrier >= QUEUES ||
         barrier < p->last_barrier || size < 1 || size > 8)
         return 4;
+    if (p->last_sleeper != 0)
+        return 4;
     p->size[barrier] = (uint8_t)size;
     p->last_barrier = barrier + 1;
+    p->first[0] = index + 1;
+    return 0;
+}
+
+/* Sleepers ascend from above worker 0, who never sleeps. */
+static unsigned read_sleep(struct plan *p, const uint8_t *record, unsigned index)
+{
+    unsigned worker = record[AT_WORKER];
+    if (index != p->first[0] || worker >= p->workers || worker <= p->last_sleeper)
+        return 14;
+    if (record[AT_REGISTER] != 0 || number_of(record) != 0)
+        return 14;
+    p->fate[worker] = ASLEEP;
+    p->last_sleeper = worker;
     p->first[0] = index + 1;
     return 0;
 }
@@ -140,6 +169,16 @@ static void go_on_to(struct plan *p, unsigned worker, unsigned index)
     }
 }
 
+/* A barrier must have a size, and a worker that is started be in the plan. */
+static unsigned read_name(const struct plan *p, unsigned op, unsigned number)
+{
+    if (op == OP_BARRIER && p->size[number] == 0)
+        return 9;
+    if (op == OP_START && number >= p->workers)
+        return 7;
+    return 0;
+}
+
 static unsigned read_step(struct plan *p, const uint8_t *record, unsigned index)
 {
     unsigned op = record[AT_OP], worker = record[AT_WORKER];
@@ -154,8 +193,8 @@ static unsigned read_step(struct plan *p, const uint8_t *record, unsigned index)
     if (record[AT_REGISTER] > LIMITS[op].register_most ||
         number < LIMITS[op].number_least || number > LIMITS[op].number_most)
         return 7;
-    if (op == OP_BARRIER && p->size[number] == 0)
-        return 9;
+    if (op >= OP_BARRIER)
+        return read_name(p, op, number);
     if (is_skip(op) && index + 1 + number > p->reach)
         p->reach = index + 1 + number;
     return 0;
@@ -167,11 +206,13 @@ static unsigned read_record(struct plan *p, const uint8_t *record, unsigned inde
         return 2;
     if (index == 0)
         return read_plan(p, record);
+    if (record[AT_OP] > OP_SLEEP)
+        return read_step(p, record, index);
     if (record[AT_OP] == OP_PLAN)
         return 3;
     if (record[AT_OP] == OP_SIZE)
         return read_size(p, record, index);
-    return read_step(p, record, index);
+    return read_sleep(p, record, index);
 }
 
 /* The first skip that lands too far. */
@@ -326,13 +367,13 @@ static void commit(struct engine *e, struct worker *w)
 }
 
 /* A step on registers or memory. */
-static void plain_step(const struct engine *e, struct worker *w)
+static void plain_step(const struct engine *e, struct worker *w, unsigned op)
 {
     const uint8_t *record = w->step;
     unsigned number = number_of(record);
     uint16_t *own = &w->registers[record[AT_REGISTER]];
     w->step += RECORD;
-    switch (record[AT_OP]) {
+    switch (op) {
     case OP_SET:
         *own = (uint16_t)number;
         break;
@@ -488,6 +529,19 @@ static void meet(struct engine *e, struct worker *w, unsigned barrier)
     give_up_token(e, w);
 }
 
+/* The caller keeps the token, with no lock held too. */
+static void start_worker(struct engine *e, struct worker *w, unsigned name)
+{
+    unsigned outcome = AWAKE;
+    commit(e, w);
+    if (e->workers[name].fate == ASLEEP) {
+        e->workers[name].fate = GOING;
+        push(&e->next, name);
+        outcome = STARTED;
+    }
+    write_log(e, w, OP_START, name, outcome);
+}
+
 static void exit_plan(struct engine *e, struct worker *w)
 {
     commit(e, w);
@@ -498,9 +552,15 @@ static void exit_plan(struct engine *e, struct worker *w)
 /* Unlock and wait need a count, barrier and exit need none. */
 static int fails(const struct worker *w, unsigned op)
 {
-    if (w->count == 0)
-        return op == OP_UNLOCK || op == OP_WAIT;
-    return op == OP_BARRIER || op == OP_EXIT;
+    switch (op) {
+    case OP_UNLOCK:
+    case OP_WAIT:
+        return w->count == 0;
+    case OP_BARRIER:
+    case OP_EXIT:
+        return w->count != 0;
+    }
+    return 0;
 }
 
 static void token_step(struct engine *e, struct worker *w, unsigned op)
@@ -528,7 +588,10 @@ static void token_step(struct engine *e, struct worker *w, unsigned op)
     case OP_BARRIER:
         meet(e, w, number);
         break;
-    default:
+    case OP_START:
+        start_worker(e, w, number);
+        break;
+    case OP_EXIT:
         exit_plan(e, w);
         break;
     }
@@ -539,7 +602,7 @@ static void move(struct engine *e, struct worker *w)
     unsigned op = w->step == w->behind ? OP_EXIT : w->step[AT_OP];
     e->moves += 1;
     if (op < OP_LOCK)
-        plain_step(e, w);
+        plain_step(e, w, op);
     else if (e->may[w->name] == HOLDS_TOKEN)
         token_step(e, w, op);
     else
@@ -571,9 +634,17 @@ static void start(struct engine *e, const struct plan *plan, const uint8_t *file
         w->step = file + plan->first[i] * RECORD;
         w->behind = file + plan->first[i + 1] * RECORD;
         w->copies = work + i * PAGES * 2 * PAGE;
-        push(&e->list, i);
+        w->fate = plan->fate[i];
+        if (w->fate == GOING)
+            push(&e->list, i);
     }
     begin_round(e);
+}
+
+/* Whether a worker of this fate lets a plan be finished. */
+static int is_over(unsigned fate)
+{
+    return fate == EXITED || fate == FAILED || fate == ASLEEP;
 }
 
 /* 0 going, 1 finished, 2 stuck. */
@@ -582,7 +653,7 @@ static uint8_t end_of(const struct engine *e)
     if (e->list.len != 0)
         return 0;
     for (unsigned i = 0; i < e->plan->workers; i++)
-        if (e->workers[i].fate != EXITED && e->workers[i].fate != FAILED)
+        if (!is_over(e->workers[i].fate))
             return 2;
     return 1;
 }

@@ -81,10 +81,10 @@ static void shuffle(uint8_t *cycle, unsigned workers, uint64_t *state)
     }
 }
 
+/* The ops of the records that are no steps lie below all others. */
 static int is_step(const uint8_t *record)
 {
-    unsigned op = record[TAMPERMAUVE_RECORD_OP];
-    return op != TAMPERMAUVE_OP_PLAN_RECORD && op != TAMPERMAUVE_OP_BARRIER_RECORD;
+    return record[TAMPERMAUVE_RECORD_OP] > TAMPERMAUVE_OP_SLEEP_RECORD;
 }
 
 static size_t steps_of(const struct host *h)
@@ -125,7 +125,7 @@ void host_say_refusal(uint32_t answer)
         [TAMPERMAUVE_BAD_LENGTH] = "the file is empty, cut or too long",
         [TAMPERMAUVE_BAD_MARK] = "a record without its mark",
         [TAMPERMAUVE_BAD_PLAN] = "not a plan record within its limits, or a second one",
-        [TAMPERMAUVE_BAD_BARRIER] = "a barrier record out of order, after a step or out of range",
+        [TAMPERMAUVE_BAD_BARRIER] = "a barrier record out of order, after a sleep record or a step, or out of range",
         [TAMPERMAUVE_BAD_WORKER] = "a step's worker is not in the plan, or falls",
         [TAMPERMAUVE_BAD_OP] = "an unknown op",
         [TAMPERMAUVE_BAD_OPERAND] = "an operand out of range",
@@ -135,6 +135,7 @@ void host_say_refusal(uint32_t answer)
         [TAMPERMAUVE_BAD_BUFFER] = "a lent buffer of another length",
         [TAMPERMAUVE_TOO_MANY_TURNS] = "a turn list too long",
         [TAMPERMAUVE_BAD_TURN] = "a turn that names no worker",
+        [TAMPERMAUVE_BAD_SLEEP] = "a sleep record out of order, after a step or out of range",
     };
     uint32_t number = tampermauve_refusal(answer);
     printf("refused %u at record %u: %s\n", (unsigned)number, (unsigned)tampermauve_index(answer),
@@ -154,6 +155,7 @@ void host_say_report(const struct host *h)
         [TAMPERMAUVE_FATE_FAILED] = "failed",
         [TAMPERMAUVE_FATE_ON_CONDITION] = "waiting on a condition",
         [TAMPERMAUVE_FATE_AT_BARRIER] = "queued at a barrier",
+        [TAMPERMAUVE_FATE_ASLEEP] = "asleep",
     };
     const uint8_t *report = h->report;
     printf("%s: %u moving turns, %u rounds completed, %u log records\n", ends[report[TAMPERMAUVE_REPORT_END]],

@@ -27,9 +27,9 @@ extern "C" {
 /* ---- The version of the library that this header fits. */
 
 #define TAMPERMAUVE_VERSION_MAJOR 1
-#define TAMPERMAUVE_VERSION_MINOR 0
+#define TAMPERMAUVE_VERSION_MINOR 1
 #define TAMPERMAUVE_VERSION_PATCH 0
-#define TAMPERMAUVE_VERSION "1.0.0"
+#define TAMPERMAUVE_VERSION "1.1.0"
 
 /* ---- What a call returns: refusal + 256 x index, where index is that of a record of the file, the plan record being 0.
  *      The index is 0 for the refusals 1, 11, 12 and 13. An accepted call returns 0. */
@@ -37,16 +37,18 @@ extern "C" {
 #define TAMPERMAUVE_ACCEPTED UINT32_C(0)
 
 /* caused by the author of the file */
-#define TAMPERMAUVE_BAD_LENGTH UINT32_C(1)      /* file length 0, not a multiple of 7, or above 7,231 */
+#define TAMPERMAUVE_BAD_LENGTH UINT32_C(1)      /* file length 0, not a multiple of 7, or above 7,280 */
 #define TAMPERMAUVE_BAD_MARK UINT32_C(2)        /* a record does not begin with 4D 50 */
 #define TAMPERMAUVE_BAD_PLAN UINT32_C(3)        /* the first record is no plan record within its limits, or op 0 later */
-#define TAMPERMAUVE_BAD_BARRIER UINT32_C(4)     /* barrier record out of order, after a step, or a field out of range */
+#define TAMPERMAUVE_BAD_BARRIER UINT32_C(4)     /* barrier record out of order, after a sleep record or step, or out of range */
 #define TAMPERMAUVE_BAD_WORKER UINT32_C(5)      /* a step's worker is not below n, or falls */
 #define TAMPERMAUVE_BAD_OP UINT32_C(6)          /* unknown op */
-#define TAMPERMAUVE_BAD_OPERAND UINT32_C(7)     /* register or number out of the op's range */
+#define TAMPERMAUVE_BAD_OPERAND UINT32_C(7)     /* register or number out of the op's range; a start of a worker not below n */
 #define TAMPERMAUVE_TOO_MANY_STEPS UINT32_C(8)  /* a worker's 129th step */
 #define TAMPERMAUVE_NO_SIZE UINT32_C(9)         /* a barrier step whose barrier has no record */
 #define TAMPERMAUVE_SKIP_TOO_FAR UINT32_C(10)   /* a skip that lands further than just behind the last step */
+#define TAMPERMAUVE_BAD_SLEEP UINT32_C(14)      /* sleep record of worker 0, of one not below n, out of order, after a step, or
+                                                   with a register or number not zero; it is tested where 4 is */
 
 /* caused by the host */
 #define TAMPERMAUVE_BAD_BUFFER UINT32_C(11)     /* a lent buffer of another length */
@@ -66,7 +68,7 @@ static inline uint32_t tampermauve_index(uint32_t returned) { return returned / 
 #define TAMPERMAUVE_REPORT_LENGTH 16u
 #define TAMPERMAUVE_WORK_LENGTH 32768u
 
-#define TAMPERMAUVE_FILE_LIMIT 7231u   /* the longest file that is not refused for its length */
+#define TAMPERMAUVE_FILE_LIMIT 7280u   /* the longest file that is not refused for its length: 1 + 8 + 7 + 8 x 128 records */
 #define TAMPERMAUVE_TURNS_LIMIT 65535u /* the longest list of turns; a turn is one byte */
 #define TAMPERMAUVE_RECORD_LENGTH 7u   /* a record of the file */
 #define TAMPERMAUVE_ENTRY_LENGTH 8u    /* a record of the log */
@@ -89,16 +91,17 @@ static inline uint32_t tampermauve_index(uint32_t returned) { return returned / 
 /* ---- A record of the plan file: offsets of its parts, and the ops. */
 
 #define TAMPERMAUVE_RECORD_MARK 0u     /* two bytes, 4D 50 */
-#define TAMPERMAUVE_RECORD_WORKER 2u   /* in the plan record, n */
+#define TAMPERMAUVE_RECORD_WORKER 2u   /* in the plan record, n; in a sleep record, the sleeper */
 #define TAMPERMAUVE_RECORD_OP 3u
 #define TAMPERMAUVE_RECORD_REGISTER 4u /* in a barrier record, the barrier */
 #define TAMPERMAUVE_RECORD_NUMBER 5u   /* two bytes; in a barrier record, the size */
 
 #define TAMPERMAUVE_PLAN_MARK 0x504Du /* 4D 50 as tampermauve_word reads it */
 
-/* the records that are no steps */
+/* the records that are no steps, in the order in which they stand before the steps */
 #define TAMPERMAUVE_OP_PLAN_RECORD 0u
 #define TAMPERMAUVE_OP_BARRIER_RECORD 1u
+#define TAMPERMAUVE_OP_SLEEP_RECORD 2u  /* its worker begins asleep; register and number are 0 */
 
 /* steps of a worker by itself: a register, and what the number is */
 #define TAMPERMAUVE_OP_SET 16u          /* a value */
@@ -117,6 +120,7 @@ static inline uint32_t tampermauve_index(uint32_t returned) { return returned / 
 #define TAMPERMAUVE_OP_BROADCAST 36u /* a condition */
 #define TAMPERMAUVE_OP_BARRIER 37u   /* a barrier */
 #define TAMPERMAUVE_OP_EXIT 38u      /* the number is 0 */
+#define TAMPERMAUVE_OP_START 39u     /* a worker below n */
 
 /* ---- The report: offsets of its parts. Two-byte numbers are low byte first. */
 
@@ -138,6 +142,7 @@ static inline uint32_t tampermauve_index(uint32_t returned) { return returned / 
 #define TAMPERMAUVE_FATE_FAILED 2u
 #define TAMPERMAUVE_FATE_ON_CONDITION 3u
 #define TAMPERMAUVE_FATE_AT_BARRIER 4u
+#define TAMPERMAUVE_FATE_ASLEEP 5u
 #define TAMPERMAUVE_FATE_NO_WORKER 255u
 
 /* ---- A record of the log: offsets of its parts. */
@@ -152,8 +157,10 @@ static inline uint32_t tampermauve_index(uint32_t returned) { return returned / 
 #define TAMPERMAUVE_LOG_MARK 0x4C4Du /* 4D 4C as tampermauve_word reads it */
 
 /* Outcomes. Lock and unlock: the count after. Signal and broadcast: the woken worker, or NONE. Barrier: QUEUED, or the size.
- * Wait and exit: NONE. A failure: FAILED, with the op as met. */
+ * Wait and exit: NONE. Start: STARTED, or AWAKE if the worker was not asleep. A failure: FAILED, with the op as met. */
 #define TAMPERMAUVE_OUTCOME_QUEUED 0u
+#define TAMPERMAUVE_OUTCOME_STARTED 1u
+#define TAMPERMAUVE_OUTCOME_AWAKE 253u
 #define TAMPERMAUVE_OUTCOME_FAILED 254u
 #define TAMPERMAUVE_OUTCOME_NONE 255u
 
@@ -164,19 +171,20 @@ static inline uint32_t tampermauve_word(const uint8_t *bytes, size_t at) {
 
 /* ---- How many turns end a plan
  *
- * A cycle is one turn for each of the n workers, in any order. So many whole cycles end any plan of n workers that has so many
- * steps in all, and no plan needs more than TAMPERMAUVE_ENDING_TURNS turns. Further turns change nothing. */
+ * A cycle is one turn for each of the n workers, sleepers among them, in any order. So many whole cycles end any plan of n
+ * workers that has so many steps in all, those of sleepers among them, and no plan needs more than TAMPERMAUVE_ENDING_TURNS
+ * turns. Further turns change nothing. */
 static inline size_t tampermauve_ending_cycles(size_t steps, size_t workers) { return 2u * (steps + workers); }
 
 #define TAMPERMAUVE_ENDING_TURNS 16512u /* 2 x (8 x 128 + 8) cycles of 8 turns */
 
 /* ---- Calls */
 
-/* Checks a plan file: 0 if it is accepted, else one of the refusals 1 to 10 with its index. Nothing is written.
+/* Checks a plan file: 0 if it is accepted, else one of the refusals 1 to 10 and 14 with its index. Nothing is written.
  * `file` may have any length. */
 uint32_t tampermauve_check(const uint8_t *file, size_t file_length);
 
-/* Runs a plan file by a list of turns. It tests 11, 12, the file's 1 to 10, then 13 over all turns, before it writes a byte.
+/* Runs a plan file by a list of turns. It tests 11, 12, the file's 1 to 10 and 14, then 13 over all turns, before it writes.
  *
  *   memory  exactly TAMPERMAUVE_MEMORY_LENGTH bytes: in, the starting memory; out, the shared memory
  *   log     exactly TAMPERMAUVE_LOG_LENGTH bytes: out, its records and then zeros
@@ -184,11 +192,11 @@ uint32_t tampermauve_check(const uint8_t *file, size_t file_length);
  *   work    exactly TAMPERMAUVE_WORK_LENGTH bytes: out, all zero
  *
  * What log, report and work hold before the call does not matter. After a refusal all four are as they were.
- * `turns` may be empty; each byte names a worker.
+ * `turns` may be empty; each byte names a worker. A turn that names a sleeper passes.
  *
- * Each run begins with round 1, with every worker at its first step, and cannot be resumed: what it leaves in the buffers is no
- * state to go on from. To go on, hand in the file and the starting memory again with the whole list of turns, those of
- * the earlier run first: the log then begins with the earlier run's records. */
+ * Each run begins with round 1, with every worker at its first step and every sleeper asleep, and cannot be resumed: what it
+ * leaves in the buffers is no state to go on from. To go on, hand in the file and the starting memory again with the whole list
+ * of turns, those of the earlier run first: the log then begins with the earlier run's records. */
 uint32_t tampermauve_run(const uint8_t *file, size_t file_length, const uint8_t *turns, size_t turns_length, uint8_t *memory,
                          size_t memory_length, uint8_t *log, size_t log_length, uint8_t *report, size_t report_length,
                          uint8_t *work, size_t work_length);

@@ -1,5 +1,5 @@
-/* tampermauve_check on accepted and refused files of every number from 1 to 10. The expected numbers are written from
- * document 01, "Plan file" and "Who can cause which refusal", and not from the code. */
+/* tampermauve_check on accepted and refused files of every number from 1 to 10, and of 14. The expected numbers are written from
+ * document 01, "Plan file" and "Who can cause which refusal", as request One of document 02 amends them, and not from the code. */
 #include <stdio.h>
 #include <stdlib.h>
 #include <string.h>
@@ -58,16 +58,23 @@ static void race(struct plan_file *f) {
     }
 }
 
-/* The largest file: the plan record, eight barrier records, 128 steps for each of eight workers. 1,033 records. */
-static void largest(struct plan_file *f) {
+/* The plan record, eight barrier records, 128 steps for each of eight workers, and as many sleep records as a plan of n workers may
+ * have. */
+static void large(struct plan_file *f, unsigned n) {
     unsigned k;
     plan_begin(f, TAMPERMAUVE_WORKERS_LIMIT);
     for (k = 0; k < TAMPERMAUVE_BARRIER_COUNT; k++) {
         plan_size(f, k, k + 1);
     }
+    plan_sleepers(f, n);
     for (k = 0; k < TAMPERMAUVE_WORKERS_LIMIT; k++) {
         plan_fill(f, k, TAMPERMAUVE_STEPS_LIMIT);
     }
+}
+
+/* With all seven sleep records: 1,040 records, the last at index 1,039. */
+static void largest(struct plan_file *f) {
+    large(f, TAMPERMAUVE_WORKERS_LIMIT);
 }
 
 static void accepted(void) {
@@ -99,16 +106,16 @@ static void accepted(void) {
     accepts("a size that no step uses", &f);
 }
 
-/* 1: "file length 0, not a multiple of 7, or above 7,231" */
+/* 1: "file length 0, not a multiple of 7, or above" 7,280 */
 static void lengths(void) {
     struct plan_file f;
     size_t k;
     largest(&f);
-    if (f.length != 7231) {
+    if (f.length != 7280) {
         printf("FAILED: the largest file has %lu bytes\n", (unsigned long)f.length);
         failures++;
     }
-    accepts("7,231 bytes", &f);
+    accepts("7,280 bytes", &f);
     for (k = 0; k < f.length; k++) {
         if (k % 7 != 0) {
             expect_bytes("not a multiple of 7", f.bytes, k, 1, 0);
@@ -116,14 +123,29 @@ static void lengths(void) {
     }
     expect_bytes("no bytes", f.bytes, 0, 1, 0);
     plan_add(&f, 7, TAMPERMAUVE_OP_EXIT, 0, 0);
-    for (k = 7232; k <= 7238; k++) {
-        expect_bytes("above 7,231 bytes", f.bytes, k, 1, 0);
+    for (k = 7281; k <= 7287; k++) {
+        expect_bytes("above 7,280 bytes", f.bytes, k, 1, 0);
     }
     plan_unmark(&f, 0);
-    refuses("7,238 bytes without a mark", &f, 1, 0);
+    refuses("7,287 bytes without a mark", &f, 1, 0);
     race(&f);
     plan_unmark(&f, 0);
     expect_bytes("a length before a mark", f.bytes, f.length - 1, 1, 0);
+}
+
+/* The limit of the files without sleepers, 7,231, is none any more: each sleep record makes such a file seven bytes longer. */
+static void lengths_of_sleepers(void) {
+    struct plan_file f;
+    unsigned n;
+    for (n = 1; n <= TAMPERMAUVE_WORKERS_LIMIT; n++) {
+        large(&f, n);
+        checks++;
+        if (f.length != 7231u + 7u * (n - 1u)) {
+            printf("FAILED: %u sleepers make %lu bytes\n", n - 1u, (unsigned long)f.length);
+            failures++;
+        }
+        accepts("up to seven sleep records beside all else that a file may hold", &f);
+    }
 }
 
 /* 2: "mark" */
@@ -143,8 +165,8 @@ static void marks(void) {
         refuses("a mark's bytes exchanged", &f, 2, k);
     }
     largest(&f);
-    plan_unmark(&f, 1032);
-    refuses("the mark of record 1,032", &f, 2, 1032);
+    plan_unmark(&f, 1039);
+    refuses("the mark of record 1,039", &f, 2, 1039);
     plan_begin(&f, 9);
     plan_unmark(&f, 0);
     refuses("2 before 3 in the first record", &f, 2, 0);
@@ -252,14 +274,185 @@ static void barriers(void) {
     refuses("a barrier's size 65,535", &f, 4, 1);
 }
 
-/* the table: op, largest register, smallest and largest number */
-static const unsigned table[14][4] = {
+/* 14: "a sleep record for worker 0 or one not below n", each worker byte in each plan */
+static void sleeping_workers(void) {
+    struct plan_file f;
+    unsigned k;
+    for (k = 0; k < 8u * 256u; k++) {
+        unsigned n = 1u + k / 256u, worker = k % 256u;
+        int sleeps = worker >= 1u && worker < n;
+        plan_begin(&f, n);
+        plan_sleep(&f, worker);
+        refuses("the worker of a sleep record", &f, sleeps ? 0 : 14, sleeps ? 0 : 1);
+    }
+}
+
+/* 14: "with other bytes not zero": register, low and high byte of the number */
+static void sleeping_bytes(void) {
+    struct plan_file f;
+    unsigned k;
+    for (k = 1; k < 256; k++) {
+        plan_begin(&f, 8);
+        plan_add(&f, 3, TAMPERMAUVE_OP_SLEEP_RECORD, k, 0);
+        refuses("the register of a sleep record", &f, 14, 1);
+        plan_begin(&f, 8);
+        plan_add(&f, 3, TAMPERMAUVE_OP_SLEEP_RECORD, 0, k);
+        refuses("the number of a sleep record", &f, 14, 1);
+        plan_begin(&f, 8);
+        plan_add(&f, 3, TAMPERMAUVE_OP_SLEEP_RECORD, 0, 256u * k);
+        refuses("the high byte of a sleep record's number", &f, 14, 1);
+    }
+}
+
+/* So many sleep records in a plan of eight workers. */
+static void expect_sleepers(const char *what, const unsigned *workers, unsigned count, unsigned refusal, unsigned index) {
+    struct plan_file f;
+    unsigned k;
+    plan_begin(&f, 8);
+    for (k = 0; k < count; k++) {
+        plan_sleep(&f, workers[k]);
+    }
+    refuses(what, &f, refusal, index);
+}
+
+/* 14: "out of order", a worker's second record included: "at most one per worker, ascending" */
+static void sleeping_order(void) {
+    static const unsigned all[8] = {1, 2, 3, 4, 5, 6, 7, 7}, some[3] = {1, 4, 7}, zero_first[2] = {0, 1}, zero_last[2] = {1, 0};
+    static const unsigned falling[2] = {2, 1}, twice[2] = {3, 3}, back[3] = {1, 2, 1}, last_falls[3] = {1, 7, 6};
+    static const unsigned eighth[8] = {1, 2, 3, 4, 5, 6, 7, 8}, eighth_zero[8] = {1, 2, 3, 4, 5, 6, 7, 0};
+    expect_sleepers("seven sleepers", all, 7, 0, 0);
+    expect_sleepers("sleepers 1, 4, 7", some, 3, 0, 0);
+    expect_sleepers("sleepers 2, 1", falling, 2, 14, 2);
+    expect_sleepers("a second record of sleeper 3", twice, 2, 14, 2);
+    expect_sleepers("sleepers 1, 2, 1", back, 3, 14, 3);
+    expect_sleepers("sleepers 1, 7, 6", last_falls, 3, 14, 3);
+    expect_sleepers("a second record of sleeper 7", all, 8, 14, 8);
+    expect_sleepers("an eighth sleeper, 8", eighth, 8, 14, 8);
+    expect_sleepers("an eighth sleeper, 0", eighth_zero, 8, 14, 8);
+    expect_sleepers("sleeper 0 before another", zero_first, 2, 14, 1);
+    expect_sleepers("sleeper 0 behind another", zero_last, 2, 14, 2);
+}
+
+/* 14: "out of .. place", which is behind a step; "a barrier record behind a sleep record is 4" */
+static void sleeping_place(void) {
+    struct plan_file f;
+    plan_begin(&f, 3);
+    plan_size(&f, 2, 1);
+    plan_size(&f, 5, 1);
+    plan_sleep(&f, 1);
+    plan_sleep(&f, 2);
+    plan_fill(&f, 0, 1);
+    plan_fill(&f, 2, 1);
+    accepts("barrier records, sleep records, steps; sleeper 1 without any", &f);
+    plan_sleep(&f, 2);
+    refuses("a sleep record at the end of the steps", &f, 14, 7);
+    plan_begin(&f, 3);
+    plan_fill(&f, 0, 1);
+    plan_sleep(&f, 1);
+    refuses("a sleep record after a step", &f, 14, 2);
+    plan_begin(&f, 3);
+    plan_sleep(&f, 1);
+    plan_fill(&f, 0, 1);
+    plan_sleep(&f, 2);
+    refuses("an ascending sleep record after a step", &f, 14, 3);
+    plan_begin(&f, 3);
+    plan_fill(&f, 2, 1);
+    plan_sleep(&f, 1);
+    refuses("a sleep record after the first step, which is not worker 0's", &f, 14, 2);
+}
+
+static void barriers_behind_sleepers(void) {
+    struct plan_file f;
+    plan_begin(&f, 3);
+    plan_sleep(&f, 1);
+    plan_size(&f, 0, 1);
+    refuses("a barrier record behind a sleep record", &f, 4, 2);
+    plan_sleep(&f, 2);
+    refuses("a sleep record behind a barrier record that is refused", &f, 4, 2);
+    plan_begin(&f, 3);
+    plan_size(&f, 0, 1);
+    plan_sleep(&f, 2);
+    plan_size(&f, 1, 1);
+    refuses("an ascending barrier record behind a sleep record", &f, 4, 3);
+    plan_begin(&f, 3);
+    plan_sleep(&f, 2);
+    plan_fill(&f, 0, 1);
+    plan_size(&f, 1, 1);
+    refuses("a barrier record behind a sleep record and a step", &f, 4, 3);
+    plan_begin(&f, 3);
+    plan_sleep(&f, 0);
+    plan_size(&f, 1, 1);
+    refuses("a barrier record behind a sleep record that is refused", &f, 14, 1);
+    plan_begin(&f, 3);
+    plan_sleep(&f, 2);
+    plan_add(&f, 3, TAMPERMAUVE_OP_PLAN_RECORD, 0, 0);
+    refuses("a plan record behind a sleep record", &f, 3, 2);
+}
+
+/* 14 "is tested where 4 is": behind 2 and 3, before 6, 5, 8, 7 and 9. Behind the first record, a marked one with op 2 is refused
+ * by 14 alone. */
+static void sleeping_tests(void) {
+    struct plan_file f;
+    plan_begin(&f, 2);
+    plan_unmark(&f, plan_sleep(&f, 0));
+    refuses("2 before 14", &f, 2, 1);
+    f.length = 0;
+    plan_sleep(&f, 1);
+    refuses("3 before 14 in the first record", &f, 3, 0);
+    plan_begin(&f, 2);
+    plan_add(&f, 200, TAMPERMAUVE_OP_SLEEP_RECORD, 200, 60000);
+    refuses("14 before 5 and 7", &f, 14, 1);
+    plan_begin(&f, 2);
+    plan_fill(&f, 1, 128);
+    plan_sleep(&f, 1);
+    refuses("14 before 8", &f, 14, 129);
+    plan_begin(&f, 2);
+    plan_sync(&f, 1, 99, 0);
+    plan_sleep(&f, 0);
+    refuses("an earlier record's 6 before a later one's 14", &f, 6, 1);
+    plan_begin(&f, 2);
+    plan_sleep(&f, 0);
+    plan_sync(&f, 1, 99, 0);
+    refuses("an earlier record's 14 before a later one's 6", &f, 14, 1);
+    plan_begin(&f, 2);
+    plan_sleep(&f, 1);
+    plan_sync(&f, 0, TAMPERMAUVE_OP_BARRIER, 0);
+    plan_sleep(&f, 1);
+    refuses("an earlier record's 9 before a later one's 14", &f, 9, 2);
+    plan_begin(&f, 2);
+    plan_add(&f, 0, TAMPERMAUVE_OP_SKIP_ZERO, 0, 127);
+    plan_sleep(&f, 1);
+    refuses("14 before 10", &f, 14, 2);
+}
+
+/* The first and the last record that can be 14, and the last sleep record, in the largest file. */
+static void sleeping_indices(void) {
+    struct plan_file f;
+    largest(&f);
+    f.bytes[TAMPERMAUVE_RECORD_LENGTH * 9u + TAMPERMAUVE_RECORD_WORKER] = 0;
+    refuses("14 in record 9", &f, 14, 9);
+    largest(&f);
+    f.bytes[TAMPERMAUVE_RECORD_LENGTH * 15u + TAMPERMAUVE_RECORD_WORKER] = 8;
+    refuses("14 in record 15", &f, 14, 15);
+    largest(&f);
+    f.bytes[TAMPERMAUVE_RECORD_LENGTH * 15u + TAMPERMAUVE_RECORD_WORKER] = 6;
+    refuses("14 in record 15, a repeated sleeper", &f, 14, 15);
+    largest(&f);
+    f.length -= TAMPERMAUVE_RECORD_LENGTH;
+    plan_sleep(&f, 7);
+    refuses("14 in record 1,039", &f, 14, 1039);
+}
+
+/* the table: op, largest register, smallest and largest number; of a start in a plan of eight workers */
+enum { ROWS = 15 };
+static const unsigned table[ROWS][4] = {
     {16, 3, 0, 65535}, {17, 3, 0, 2046}, {18, 3, 0, 2046}, {19, 3, 0, 3}, {20, 3, 0, 3}, {21, 3, 1, 127}, {22, 3, 1, 127},
-    {32, 0, 0, 15},    {33, 0, 0, 15},   {34, 0, 0, 7},    {35, 0, 0, 7}, {36, 0, 0, 7}, {37, 0, 0, 7},   {38, 0, 0, 0}};
+    {32, 0, 0, 15},    {33, 0, 0, 15},   {34, 0, 0, 7},    {35, 0, 0, 7}, {36, 0, 0, 7}, {37, 0, 0, 7},   {38, 0, 0, 0},
+    {39, 0, 0, 7}};
 
 static int known(unsigned op) {
     unsigned k;
-    for (k = 0; k < 14; k++) {
+    for (k = 0; k < ROWS; k++) {
         if (table[k][0] == op) {
             return 1;
         }
@@ -272,7 +465,7 @@ static void expect_operand(unsigned row, unsigned reg, unsigned number) {
     struct plan_file f;
     unsigned b;
     int in_range = reg <= table[row][1] && number >= table[row][2] && number <= table[row][3];
-    plan_begin(&f, 1);
+    plan_begin(&f, 8);
     for (b = 0; b < 8; b++) {
         plan_size(&f, b, 1);
     }
@@ -285,7 +478,7 @@ static void expect_operand(unsigned row, unsigned reg, unsigned number) {
 static void steps(void) {
     struct plan_file f;
     unsigned k, r, op;
-    for (op = 2; op < 256; op++) {
+    for (op = 3; op < 256; op++) {
         if (!known(op)) {
             plan_begin(&f, 1);
             plan_add(&f, 0, op, 0, 1);
@@ -295,7 +488,7 @@ static void steps(void) {
             refuses("6 before 5 and 7", &f, 6, 1);
         }
     }
-    for (k = 0; k < 14; k++) {
+    for (k = 0; k < ROWS; k++) {
         for (r = 0; r < 256; r++) {
             expect_operand(k, r, table[k][2]);
         }
@@ -320,6 +513,61 @@ static void steps(void) {
     plan_begin(&f, 1);
     plan_add(&f, 0, TAMPERMAUVE_OP_STORE, 0, 2047);
     refuses("store at 2,047", &f, 7, 1);
+}
+
+/* Op 39 has "a worker below n as number"; any other number is 7 */
+static void starts(void) {
+    struct plan_file f;
+    unsigned k;
+    for (k = 0; k < 8u * 300u; k++) {
+        unsigned n = 1u + k / 300u, started = k % 300u;
+        plan_begin(&f, n);
+        plan_sync(&f, n - 1u, TAMPERMAUVE_OP_START, started);
+        refuses("a start of a worker", &f, started < n ? 0 : 7, started < n ? 0 : 1);
+    }
+}
+
+/* .. and "register 0"; the high byte of its number is 0, as n is at most 8 */
+static void start_bytes(void) {
+    struct plan_file f;
+    unsigned k;
+    for (k = 0; k < 256; k++) {
+        plan_begin(&f, 2);
+        plan_sleep(&f, 1);
+        plan_add(&f, 0, TAMPERMAUVE_OP_START, k, 1);
+        refuses("the register of a start", &f, k == 0 ? 0 : 7, k == 0 ? 0 : 2);
+        plan_begin(&f, 2);
+        plan_sleep(&f, 1);
+        plan_sync(&f, 0, TAMPERMAUVE_OP_START, 1u + 256u * k);
+        refuses("the high byte of a start's number", &f, k == 0 ? 0 : 7, k == 0 ? 0 : 2);
+    }
+}
+
+/* A start beside the other tests of a step. */
+static void start_tests(void) {
+    struct plan_file f;
+    plan_begin(&f, 2);
+    plan_sync(&f, 2, TAMPERMAUVE_OP_START, 2);
+    refuses("5 before 7 of a start", &f, 5, 1);
+    plan_begin(&f, 2);
+    plan_fill(&f, 0, 127);
+    plan_sync(&f, 0, TAMPERMAUVE_OP_START, 1);
+    accepts("a start as the 128th step", &f);
+    plan_sync(&f, 0, TAMPERMAUVE_OP_START, 2);
+    refuses("8 before 7 of a start", &f, 8, 129);
+    plan_begin(&f, 2);
+    plan_add(&f, 0, TAMPERMAUVE_OP_SKIP_ZERO, 0, 127);
+    plan_sync(&f, 0, TAMPERMAUVE_OP_START, 2);
+    refuses("7 of a start before 10", &f, 7, 2);
+    plan_begin(&f, 2);
+    plan_sync(&f, 0, TAMPERMAUVE_OP_START, 2);
+    plan_sync(&f, 0, TAMPERMAUVE_OP_BARRIER, 0);
+    refuses("an earlier record's 7 of a start before a later one's 9", &f, 7, 1);
+    plan_begin(&f, 2);
+    plan_add(&f, 0, TAMPERMAUVE_OP_SKIP_ZERO, 0, 1);
+    plan_sync(&f, 0, TAMPERMAUVE_OP_START, 0);
+    plan_sync(&f, 1, TAMPERMAUVE_OP_START, 1);
+    accepts("a skip over a start; starts of oneself, nobody being asleep", &f);
 }
 
 /* 5: "step's worker not below n, or falling"; 8: "a worker's 129th step"; 9: "barrier without a size" */
@@ -489,7 +737,7 @@ static void skips(void) {
     largest(&f);
     f.length -= TAMPERMAUVE_RECORD_LENGTH;
     plan_add(&f, 7, TAMPERMAUVE_OP_SKIP_ZERO, 0, 1);
-    refuses("10 in record 1,032", &f, 10, 1032);
+    refuses("10 in record 1,039", &f, 10, 1039);
 }
 
 /* The header's names have the paper's numbers. */
@@ -504,27 +752,27 @@ static const struct name table_of_names[] = {
     /* refusals */
     NAME(ACCEPTED, 0), NAME(BAD_LENGTH, 1), NAME(BAD_MARK, 2), NAME(BAD_PLAN, 3), NAME(BAD_BARRIER, 4), NAME(BAD_WORKER, 5),
     NAME(BAD_OP, 6), NAME(BAD_OPERAND, 7), NAME(TOO_MANY_STEPS, 8), NAME(NO_SIZE, 9), NAME(SKIP_TOO_FAR, 10),
-    NAME(BAD_BUFFER, 11), NAME(TOO_MANY_TURNS, 12), NAME(BAD_TURN, 13),
+    NAME(BAD_BUFFER, 11), NAME(TOO_MANY_TURNS, 12), NAME(BAD_TURN, 13), NAME(BAD_SLEEP, 14),
     /* lengths and limits */
     NAME(MEMORY_LENGTH, 2048), NAME(LOG_LENGTH, 8256), NAME(REPORT_LENGTH, 16), NAME(WORK_LENGTH, 32768),
-    NAME(FILE_LIMIT, 7231), NAME(TURNS_LIMIT, 65535), NAME(RECORD_LENGTH, 7), NAME(ENTRY_LENGTH, 8), NAME(WORKERS_LIMIT, 8),
+    NAME(FILE_LIMIT, 7280), NAME(TURNS_LIMIT, 65535), NAME(RECORD_LENGTH, 7), NAME(ENTRY_LENGTH, 8), NAME(WORKERS_LIMIT, 8),
     NAME(STEPS_LIMIT, 128), NAME(REGISTER_COUNT, 4), NAME(BARRIER_COUNT, 8), NAME(SIZE_LIMIT, 8), NAME(ADDRESS_LIMIT, 2046),
     NAME(LOCK_LIMIT, 15), NAME(CONDITION_LIMIT, 7), NAME(SKIP_LIMIT, 127), NAME(ENDING_TURNS, 2 * (8 * 128 + 8) * 8),
     /* the file */
     NAME(RECORD_MARK, 0), NAME(RECORD_WORKER, 2), NAME(RECORD_OP, 3), NAME(RECORD_REGISTER, 4), NAME(RECORD_NUMBER, 5),
-    NAME(PLAN_MARK, 0x4D + 256 * 0x50), NAME(OP_PLAN_RECORD, 0), NAME(OP_BARRIER_RECORD, 1), NAME(OP_SET, 16),
-    NAME(OP_LOAD, 17), NAME(OP_STORE, 18), NAME(OP_ADD, 19), NAME(OP_SUBTRACT, 20), NAME(OP_SKIP_ZERO, 21),
+    NAME(PLAN_MARK, 0x4D + 256 * 0x50), NAME(OP_PLAN_RECORD, 0), NAME(OP_BARRIER_RECORD, 1), NAME(OP_SLEEP_RECORD, 2),
+    NAME(OP_SET, 16), NAME(OP_LOAD, 17), NAME(OP_STORE, 18), NAME(OP_ADD, 19), NAME(OP_SUBTRACT, 20), NAME(OP_SKIP_ZERO, 21),
     NAME(OP_SKIP_NONZERO, 22), NAME(OP_LOCK, 32), NAME(OP_UNLOCK, 33), NAME(OP_WAIT, 34), NAME(OP_SIGNAL, 35),
-    NAME(OP_BROADCAST, 36), NAME(OP_BARRIER, 37), NAME(OP_EXIT, 38),
+    NAME(OP_BROADCAST, 36), NAME(OP_BARRIER, 37), NAME(OP_EXIT, 38), NAME(OP_START, 39),
     /* the report */
     NAME(REPORT_END, 0), NAME(REPORT_WORKERS, 1), NAME(REPORT_MOVES, 2), NAME(REPORT_ROUNDS, 4), NAME(REPORT_RECORDS, 6),
     NAME(REPORT_FATES, 8), NAME(END_GOING, 0), NAME(END_FINISHED, 1), NAME(END_STUCK, 2), NAME(FATE_GOING, 0),
     NAME(FATE_EXITED, 1), NAME(FATE_FAILED, 2), NAME(FATE_ON_CONDITION, 3), NAME(FATE_AT_BARRIER, 4),
-    NAME(FATE_NO_WORKER, 255),
+    NAME(FATE_ASLEEP, 5), NAME(FATE_NO_WORKER, 255),
     /* the log */
     NAME(ENTRY_MARK, 0), NAME(ENTRY_ROUND, 2), NAME(ENTRY_WORKER, 4), NAME(ENTRY_OP, 5), NAME(ENTRY_NUMBER, 6),
-    NAME(ENTRY_OUTCOME, 7), NAME(LOG_MARK, 0x4D + 256 * 0x4C), NAME(OUTCOME_QUEUED, 0), NAME(OUTCOME_FAILED, 254),
-    NAME(OUTCOME_NONE, 255),
+    NAME(ENTRY_OUTCOME, 7), NAME(LOG_MARK, 0x4D + 256 * 0x4C), NAME(OUTCOME_QUEUED, 0), NAME(OUTCOME_STARTED, 1),
+    NAME(OUTCOME_AWAKE, 253), NAME(OUTCOME_FAILED, 254), NAME(OUTCOME_NONE, 255),
 };
 
 static void names(void) {
@@ -539,14 +787,29 @@ static void names(void) {
     }
 }
 
+static void sleepers(void) {
+    sleeping_workers();
+    sleeping_bytes();
+    sleeping_order();
+    sleeping_place();
+    barriers_behind_sleepers();
+    sleeping_tests();
+    sleeping_indices();
+}
+
 int main(void) {
     names();
     accepted();
     lengths();
+    lengths_of_sleepers();
     marks();
     plans();
     barriers();
+    sleepers();
     steps();
+    starts();
+    start_bytes();
+    start_tests();
     order();
     skips();
     if (failures > 0) {

@@ -51,6 +51,15 @@ plan_record() {
     printf "$(printf '\\115\\120\\%03o\\%03o\\%03o\\%03o\\%03o' "$@")"
 }
 
+# As many records as a file may have; its cycles are as many as host.h has room
+# for. Of its workers only the first is awake.
+longest() {
+    echo 8 0 0 0
+    for barrier in 0 1 2 3 4 5 6 7; do echo 0 1 $barrier 8; done
+    for worker in 1 2 3 4 5 6 7; do echo $worker 2 0 0; done
+    awk 'BEGIN { for (i = 0; i < 1024; i++) print int(i / 128), 16, 0, i }'
+}
+
 # Two workers wait and then add at a page border; the third wakes both.
 make_plans() {
     {
@@ -69,12 +78,27 @@ make_plans() {
     } > "$work/plan"
     { plan_record 1 0 0 0 0; plan_record 0 32 0 0 0; plan_record 0 34 0 0 0; } > "$work/stuck"
     { plan_record 1 0 0 0 0; plan_record 0 17 0 255 7; } > "$work/refused"
+    # Worker 0 starts worker 2, and nobody worker 1.
+    {
+        plan_record 3 0 0 0 0
+        plan_record 1 2 0 0 0
+        plan_record 2 2 0 0 0
+        plan_record 0 39 0 2 0
+    } > "$work/sleeper"
+    { plan_record 1 0 0 0 0; plan_record 0 2 0 0 0; } > "$work/no_sleeper"
+    longest | tests/plan_file.sh > "$work/longest"
     head -c 8000 /dev/zero > "$work/long"
 }
 
 report='finished: 26 moving turns, 3 rounds completed, 11 log records
 worker 0: exited
 worker 1: exited
+worker 2: exited'
+
+# Arrival, start and end of worker 0, arrival and end of worker 2.
+slept='finished: 5 moving turns, 2 rounds completed, 3 log records
+worker 0: exited
+worker 1: asleep
 worker 2: exited'
 
 test_hosts() { # FOLDER [RUNNER...]
@@ -96,6 +120,22 @@ log: differs at byte 3, 1 kept, 0 now
 report: the same" "$@" "$where/reprint" "$work/plan" "$where/kept" 8
     expect 0 "stuck: 3 moving turns, 1 rounds completed, 2 log records
 worker 0: waiting on a condition" "$@" "$where/approve" "$work/stuck" "$where/stuck"
+    expect 0 "$slept" "$@" "$where/approve" "$work/sleeper" "$where/slept"
+    expect 0 "$slept
+memory: the same
+log: the same
+report: the same" "$@" "$where/reprint" "$work/sleeper" "$where/slept" 3
+    expect 0 "finished: 130 moving turns, 1 rounds completed, 1 log records
+worker 0: exited
+worker 1: asleep
+worker 2: asleep
+worker 3: asleep
+worker 4: asleep
+worker 5: asleep
+worker 6: asleep
+worker 7: asleep" "$@" "$where/approve" "$work/longest" "$where/longest"
+    expect 1 "refused 14 at record 1: a sleep record out of order, after a step or out of range" \
+        "$@" "$where/approve" "$work/no_sleeper" "$where/none"
     expect 1 "refused 7 at record 1: an operand out of range" \
         "$@" "$where/approve" "$work/refused" "$where/none"
     [ ! -e "$where/none.start" ] || fail "a refused plan was kept"

@@ -44,6 +44,19 @@ static inline unsigned plan_size(struct plan_file *f, unsigned barrier, unsigned
     return plan_add(f, 0, TAMPERMAUVE_OP_BARRIER_RECORD, barrier, size);
 }
 
+/* A worker that sleeps until it is started. */
+static inline unsigned plan_sleep(struct plan_file *f, unsigned worker) {
+    return plan_add(f, worker, TAMPERMAUVE_OP_SLEEP_RECORD, 0, 0);
+}
+
+/* All of n workers sleep but the first, who never may. */
+static inline void plan_sleepers(struct plan_file *f, unsigned n) {
+    unsigned worker;
+    for (worker = 1; worker < n; worker++) {
+        plan_sleep(f, worker);
+    }
+}
+
 /* A step whose operand is its number alone. */
 static inline unsigned plan_sync(struct plan_file *f, unsigned worker, unsigned op, unsigned number) {
     return plan_add(f, worker, op, 0, number);

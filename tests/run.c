@@ -1,5 +1,6 @@
-/* tampermauve_run on cases 1 to 10 of document 01, every byte of every buffer compared, and on the refusals of a run.
- * What is expected is worked out by hand from document 01, "Rounds", "Log and report" and "Plans to check against". */
+/* tampermauve_run on cases 1 to 10 of document 01 and on plans with sleepers and starts, every byte of every buffer compared, and on
+ * the refusals of a run. What is expected is worked out by hand from document 01, "Rounds", "Log and report" and "Plans to check
+ * against", and from request One of document 02. */
 #include <stdio.h>
 #include <stdlib.h>
 #include <string.h>
@@ -24,10 +25,10 @@ struct entry {
 
 struct expected {
     const char *name;
-    uint8_t memory[4]; /* the first bytes; the rest is zero */
+    uint8_t memory[6]; /* the first bytes; the rest is zero */
     unsigned end, moves, rounds, records;
-    struct entry log[8];
-    unsigned fates[2]; /* of workers 0 and 1; 255 where there is none */
+    struct entry log[18];
+    unsigned fates[TAMPERMAUVE_WORKERS_LIMIT]; /* of the plan's workers */
 };
 
 /* Four buffers, each alone on the heap, so that an access outside of one is seen. */
@@ -111,31 +112,60 @@ static void expect(const struct expected *e, const struct lent *l, unsigned work
     same(e->name, "work", l->work, work, WORK);
 }
 
-/* The plan in so many cycles, upwards or downwards, from a starting word at address 0. */
-static void play(const struct expected *e, const struct plan_file *f, unsigned workers, unsigned cycles, int down, unsigned start) {
-    struct lent l = lend(17u + cycles);
-    uint8_t *file = fresh(f->length, 0);
-    size_t length = (size_t)cycles * workers, i;
-    uint8_t *turns = fresh(length + 1u, 0);
+/* The plan by a list of turns, from a starting word at address 0. */
+static void play(const struct expected *e, const struct plan_file *f, unsigned workers, const uint8_t *turns, size_t length,
+                 unsigned start) {
+    struct lent l = lend(17u + (unsigned)length);
+    uint8_t *file = fresh(f->length, 0), *list = fresh(length + 1u, 0);
     plan_word(l.memory, start);
     memcpy(file, f->bytes, f->length);
-    for (i = 0; i < length; i++) {
-        turns[i] = (uint8_t)(down ? workers - 1u - i % workers : i % workers);
-    }
+    memcpy(list, turns, length);
     returns(e->name,
-            tampermauve_run(file, f->length, turns, length, l.memory, MEMORY, l.log, LOG, l.report, REPORT, l.work, WORK), 0);
+            tampermauve_run(file, f->length, list, length, l.memory, MEMORY, l.log, LOG, l.report, REPORT, l.work, WORK), 0);
     expect(e, &l, workers);
     same(e->name, "file", file, f->bytes, f->length);
     take_back(&l);
     free(file);
+    free(list);
+}
+
+/* Orders of turns: upwards, downwards, each cycle beginning with the next worker, upwards and downwards in turn, and each worker
+ * three times in a row. In each of them every worker has a turn in any 3n turns. */
+enum { UP, DOWN, NEXT_FIRST, TO_AND_FRO, THRICE, ORDERS };
+
+static unsigned named(unsigned order, size_t at, unsigned workers) {
+    unsigned place = (unsigned)(at % workers), cycle = (unsigned)(at / workers);
+    switch (order) {
+    case UP:
+        return place;
+    case DOWN:
+        return workers - 1u - place;
+    case NEXT_FIRST:
+        return (place + cycle) % workers;
+    case TO_AND_FRO:
+        return cycle % 2u == 0 ? place : workers - 1u - place;
+    }
+    return (unsigned)(at / 3u % workers);
+}
+
+/* Turns that end the plan, in one of the orders. The listing program's are UP, with a third of these cycles. */
+static void play_order(const struct expected *e, const struct plan_file *f, unsigned workers, unsigned steps, unsigned order,
+                       unsigned start) {
+    size_t length = 3u * tampermauve_ending_cycles(steps, workers) * workers, i;
+    uint8_t *turns = fresh(length, 0);
+    for (i = 0; i < length; i++) {
+        turns[i] = (uint8_t)named(order, i, workers);
+    }
+    play(e, f, workers, turns, order == THRICE ? length : length / 3u, start);
     free(turns);
 }
 
-/* 2 x (steps + n) cycles of the listing program, and as many the other way round: the same bytes. */
+/* The same bytes in every order. */
 static void ends(const struct expected *e, const struct plan_file *f, unsigned workers, unsigned steps, unsigned start) {
-    unsigned cycles = (unsigned)tampermauve_ending_cycles(steps, workers);
-    play(e, f, workers, cycles, 0, start);
-    play(e, f, workers, cycles, 1, start);
+    unsigned order;
+    for (order = 0; order < ORDERS; order++) {
+        play_order(e, f, workers, steps, order, start);
+    }
 }
 
 static void race(struct plan_file *f) {
@@ -149,9 +179,18 @@ static void race(struct plan_file *f) {
     }
 }
 
-static void store(struct plan_file *f, unsigned worker, unsigned value) {
+static void store_at(struct plan_file *f, unsigned worker, unsigned value, unsigned address) {
     plan_add(f, worker, TAMPERMAUVE_OP_SET, 0, value);
-    plan_add(f, worker, TAMPERMAUVE_OP_STORE, 0, 0);
+    plan_add(f, worker, TAMPERMAUVE_OP_STORE, 0, address);
+}
+
+static void store(struct plan_file *f, unsigned worker, unsigned value) {
+    store_at(f, worker, value, 0);
+}
+
+static void copy_word(struct plan_file *f, unsigned worker, unsigned from, unsigned to) {
+    plan_add(f, worker, TAMPERMAUVE_OP_LOAD, 0, from);
+    plan_add(f, worker, TAMPERMAUVE_OP_STORE, 0, to);
 }
 
 static void add_one(struct plan_file *f, unsigned worker) {
@@ -166,10 +205,11 @@ static void memory_cases(struct plan_file *f) {
     static const struct expected case2 = {"case 2", {1, 1, 0, 0}, 1, 8, 1, 2, {{1, 0, 38, 0, 255}, {1, 1, 38, 0, 255}}, {1, 1}};
     static const struct expected case3 = {"case 3", {7, 0, 0, 0}, 1, 8, 1, 2, {{1, 0, 38, 0, 255}, {1, 1, 38, 0, 255}}, {1, 1}};
     static const struct expected case5 = {"case 5", {1, 0, 0, 0}, 1, 12, 1, 2, {{1, 0, 38, 0, 255}, {1, 1, 38, 0, 255}}, {1, 1}};
+    static const uint8_t no_turns[1] = {0};
     static const struct expected case10 = {"case 10", {0, 0, 0, 0}, 0, 0, 0, 0, {{0, 0, 0, 0, 0}}, {0, 0}};
     race(f);
     ends(&case1, f, 2, 8, 0);
-    play(&case10, f, 2, 0, 0, 0);
+    play(&case10, f, 2, no_turns, 0, 0);
     plan_begin(f, 2);
     store(f, 0, 256);
     store(f, 1, 1);
@@ -224,6 +264,375 @@ static void token_cases(struct plan_file *f) {
     ends(&case9, f, 2, 6, 0);
 }
 
+/* Sleepers whom nobody starts. They are in no list, their steps never run, and a plan is finished beside them. */
+static void sleeper_cases(struct plan_file *f) {
+    static const struct expected nobody = {"nobody is started", {7}, 1, 4, 1, 1, {{1, 0, 38, 0, 255}}, {1, 5, 5}};
+    static const struct expected seven = {"seven sleepers", {0}, 1, 2, 1, 1, {{1, 0, 38, 0, 255}}, {1, 5, 5, 5, 5, 5, 5, 5}};
+    static const struct expected failed = {"the other one fails", {0}, 1, 2, 1, 1, {{1, 0, 33, 0, 254}}, {2, 5}};
+    plan_begin(f, 3);
+    plan_sleepers(f, 3);
+    store_at(f, 0, 7, 0);
+    store_at(f, 1, 8, 2);
+    ends(&nobody, f, 3, 4, 0);
+    plan_begin(f, 8);
+    plan_sleepers(f, 8);
+    ends(&seven, f, 8, 0, 0);
+    plan_begin(f, 2);
+    plan_sleep(f, 1);
+    plan_sync(f, 0, TAMPERMAUVE_OP_UNLOCK, 0);
+    ends(&failed, f, 2, 1, 0);
+}
+
+/* Beside one who waits a plan is stuck, whoever sleeps. Worker 0: arrival, end; worker 2: arrival, lock, wait. */
+static void stuck_case(struct plan_file *f) {
+    static const struct expected waits = {"one exits, one sleeps, one waits", {0}, 2, 5, 1, 3,
+        {{1, 0, 38, 0, 255}, {1, 2, 32, 0, 1}, {1, 2, 34, 0, 255}}, {1, 5, 3}};
+    plan_begin(f, 3);
+    plan_sleep(f, 1);
+    plan_sync(f, 2, TAMPERMAUVE_OP_LOCK, 0);
+    plan_sync(f, 2, TAMPERMAUVE_OP_WAIT, 0);
+    ends(&waits, f, 3, 2, 0);
+}
+
+/* Worker 0 starts worker 1, starts it once more, stores 5 at 0 and exits, all in one go: arrival, two starts, set, store, end. In
+ * round 2 worker 1 copies the word: load, store, arrival, end. */
+static void started_twice(struct plan_file *f) {
+    plan_begin(f, 2);
+    plan_sleep(f, 1);
+    plan_sync(f, 0, TAMPERMAUVE_OP_START, 1);
+    plan_sync(f, 0, TAMPERMAUVE_OP_START, 1);
+    store_at(f, 0, 5, 0);
+    copy_word(f, 1, 0, 2);
+}
+
+static void start_cases(struct plan_file *f) {
+    static const struct expected twice = {"started twice", {5, 0, 5}, 1, 10, 2, 4,
+        {{1, 0, 39, 1, 1}, {1, 0, 39, 1, 253}, {1, 0, 38, 0, 255}, {2, 1, 38, 0, 255}}, {1, 1}};
+    /* arrival, start, end; arrival, start, end; set, store, arrival, end */
+    static const struct expected chain = {"a started worker starts another", {9}, 1, 10, 3, 5,
+        {{1, 0, 39, 1, 1}, {1, 0, 38, 0, 255}, {2, 1, 39, 2, 1}, {2, 1, 38, 0, 255}, {3, 2, 38, 0, 255}}, {1, 1, 1}};
+    /* arrival, start, end; arrival, lock, wait */
+    static const struct expected waits = {"a started worker waits", {0}, 2, 6, 2, 4,
+        {{1, 0, 39, 1, 1}, {1, 0, 38, 0, 255}, {2, 1, 32, 0, 1}, {2, 1, 34, 0, 255}}, {1, 3}};
+    started_twice(f);
+    ends(&twice, f, 2, 6, 0);
+    plan_begin(f, 3);
+    plan_sleepers(f, 3);
+    plan_sync(f, 0, TAMPERMAUVE_OP_START, 1);
+    plan_sync(f, 1, TAMPERMAUVE_OP_START, 2);
+    store_at(f, 2, 9, 0);
+    ends(&chain, f, 3, 4, 0);
+    plan_begin(f, 2);
+    plan_sleep(f, 1);
+    plan_sync(f, 0, TAMPERMAUVE_OP_START, 1);
+    plan_sync(f, 1, TAMPERMAUVE_OP_LOCK, 0);
+    plan_sync(f, 1, TAMPERMAUVE_OP_WAIT, 0);
+    ends(&waits, f, 2, 3, 0);
+}
+
+/* Worker 0 starts 7, who starts 6, and so on down to 1: eight rounds, of an arrival, a start and an end each, but for the last. */
+static void chain_case(struct plan_file *f) {
+    static const struct expected chain = {"a chain of starts", {0}, 1, 23, 8, 15,
+        {{1, 0, 39, 7, 1}, {1, 0, 38, 0, 255}, {2, 7, 39, 6, 1}, {2, 7, 38, 0, 255}, {3, 6, 39, 5, 1}, {3, 6, 38, 0, 255},
+         {4, 5, 39, 4, 1}, {4, 5, 38, 0, 255}, {5, 4, 39, 3, 1}, {5, 4, 38, 0, 255}, {6, 3, 39, 2, 1}, {6, 3, 38, 0, 255},
+         {7, 2, 39, 1, 1}, {7, 2, 38, 0, 255}, {8, 1, 38, 0, 255}}, {1, 1, 1, 1, 1, 1, 1, 1}};
+    unsigned w;
+    plan_begin(f, 8);
+    plan_sleepers(f, 8);
+    plan_sync(f, 0, TAMPERMAUVE_OP_START, 7);
+    for (w = 2; w < 8; w++) {
+        plan_sync(f, w, TAMPERMAUVE_OP_START, w - 1u);
+    }
+    ends(&chain, f, 8, 7, 0);
+}
+
+/* The plan that is started twice, under way. A turn of a sleeper passes. Once started its fate is going, and its turns pass until
+ * round 2 begins, which is with the sixth move. */
+static void going_cases(struct plan_file *f) {
+    static const struct expected asleep = {"turns of a sleeper alone", {0}, 0, 0, 0, 0, {{0, 0, 0, 0, 0}}, {0, 5}};
+    static const struct expected arrived = {"before the start", {0}, 0, 1, 0, 0, {{0, 0, 0, 0, 0}}, {0, 5}};
+    static const struct expected started = {"right behind the start", {0}, 0, 2, 0, 1, {{1, 0, 39, 1, 1}}, {0, 0}};
+    static const struct expected stored = {"before the end of round 1", {0}, 0, 5, 0, 2,
+        {{1, 0, 39, 1, 1}, {1, 0, 39, 1, 253}}, {0, 0}};
+    static const struct expected loaded = {"the first move of round 2", {5}, 0, 7, 1, 3,
+        {{1, 0, 39, 1, 1}, {1, 0, 39, 1, 253}, {1, 0, 38, 0, 255}}, {1, 0}};
+    static const uint8_t turns[9] = {1, 0, 1, 0, 1, 0, 0, 0, 1};
+    static const uint8_t further[7] = {0, 0, 0, 0, 0, 0, 1};
+    started_twice(f);
+    play(&asleep, f, 2, turns, 1, 0);
+    play(&arrived, f, 2, turns, 3, 0);
+    play(&started, f, 2, turns, 5, 0);
+    play(&stored, f, 2, turns, 9, 0);
+    play(&loaded, f, 2, further, 7, 0);
+}
+
+/* In round 1 worker 0 fails, 1 exits, 2 waits on a condition and 3 at a barrier; then worker 4 starts each of them, itself and
+ * worker 5, who is behind it in the list. None of them sleeps, so nobody joins a list, and round 1 is the last. Moves: six arrivals,
+ * and 1, 1, 2, 1, 7 and 1 steps. */
+static void awake_case(struct plan_file *f) {
+    static const struct expected awake = {"starts of those who do not sleep", {0}, 2, 19, 1, 13,
+        {{1, 0, 33, 0, 254}, {1, 1, 38, 0, 255}, {1, 2, 32, 0, 1}, {1, 2, 34, 0, 255}, {1, 3, 37, 0, 0}, {1, 4, 39, 0, 253},
+         {1, 4, 39, 1, 253}, {1, 4, 39, 2, 253}, {1, 4, 39, 3, 253}, {1, 4, 39, 4, 253}, {1, 4, 39, 5, 253}, {1, 4, 38, 0, 255},
+         {1, 5, 38, 0, 255}}, {2, 1, 3, 4, 1, 1}};
+    unsigned w;
+    plan_begin(f, 6);
+    plan_size(f, 0, 2);
+    plan_sync(f, 0, TAMPERMAUVE_OP_UNLOCK, 0);
+    plan_sync(f, 2, TAMPERMAUVE_OP_LOCK, 0);
+    plan_sync(f, 2, TAMPERMAUVE_OP_WAIT, 0);
+    plan_sync(f, 3, TAMPERMAUVE_OP_BARRIER, 0);
+    for (w = 0; w < 6; w++) {
+        plan_sync(f, 4, TAMPERMAUVE_OP_START, w);
+    }
+    ends(&awake, f, 6, 10, 0);
+}
+
+/* A start leaves one who waits where it is: a signal still wakes it for this round, a full barrier frees it for the next. */
+static void waiting_cases(struct plan_file *f) {
+    /* two arrivals; lock, wait; start, lock, signal, unlock; the woken one's unlock; two arrivals, two ends */
+    static const struct expected woken = {"started while it waits, then woken", {0}, 1, 13, 2, 9,
+        {{1, 0, 32, 0, 1}, {1, 0, 34, 0, 255}, {1, 1, 39, 0, 253}, {1, 1, 32, 0, 1}, {1, 1, 35, 0, 0}, {1, 1, 33, 0, 0},
+         {1, 0, 33, 0, 0}, {2, 1, 38, 0, 255}, {2, 0, 38, 0, 255}}, {1, 1}};
+    /* two arrivals; barrier; start, barrier; two arrivals, two ends */
+    static const struct expected freed = {"started at a barrier, then freed", {0}, 1, 9, 2, 5,
+        {{1, 0, 37, 0, 0}, {1, 1, 39, 0, 253}, {1, 1, 37, 0, 2}, {2, 0, 38, 0, 255}, {2, 1, 38, 0, 255}}, {1, 1}};
+    plan_begin(f, 2);
+    plan_sync(f, 0, TAMPERMAUVE_OP_LOCK, 0);
+    plan_sync(f, 0, TAMPERMAUVE_OP_WAIT, 0);
+    plan_sync(f, 0, TAMPERMAUVE_OP_UNLOCK, 0);
+    plan_sync(f, 1, TAMPERMAUVE_OP_START, 0);
+    plan_sync(f, 1, TAMPERMAUVE_OP_LOCK, 0);
+    plan_sync(f, 1, TAMPERMAUVE_OP_SIGNAL, 0);
+    plan_sync(f, 1, TAMPERMAUVE_OP_UNLOCK, 0);
+    ends(&woken, f, 2, 7, 0);
+    plan_begin(f, 2);
+    plan_size(f, 0, 2);
+    plan_sync(f, 0, TAMPERMAUVE_OP_BARRIER, 0);
+    plan_sync(f, 1, TAMPERMAUVE_OP_START, 0);
+    plan_sync(f, 1, TAMPERMAUVE_OP_BARRIER, 0);
+    ends(&freed, f, 2, 3, 0);
+}
+
+/* Worker 0 stores 3 at 0 before the fence, starts a worker, stores 4 at 2 and fails, which loses what no start has committed: set,
+ * store, arrival, start, set, store, failure. Worker 1, where there is one, sleeps and has no steps. */
+static void start_between_stores(struct plan_file *f, unsigned workers, unsigned started) {
+    plan_begin(f, workers);
+    plan_sleepers(f, workers);
+    store_at(f, 0, 3, 0);
+    plan_sync(f, 0, TAMPERMAUVE_OP_START, started);
+    store_at(f, 0, 4, 2);
+    plan_sync(f, 0, TAMPERMAUVE_OP_UNLOCK, 0);
+}
+
+/* A start commits whatever its outcome, and behind it a lock with count 0 commits again. */
+static void commit_cases(struct plan_file *f) {
+    static const struct expected itself = {"a start of itself commits", {3}, 1, 7, 1, 2,
+        {{1, 0, 39, 0, 253}, {1, 0, 33, 0, 254}}, {2}};
+    static const struct expected asleep = {"a start of a sleeper commits", {3}, 1, 9, 2, 3,
+        {{1, 0, 39, 1, 1}, {1, 0, 33, 0, 254}, {2, 1, 38, 0, 255}}, {2, 1}};
+    /* arrival, start, set, store, lock, which commits the 6, set, store, failure, which loses the 8; arrival, end */
+    static const struct expected locks = {"a lock behind a start commits", {6}, 1, 10, 2, 4,
+        {{1, 0, 39, 1, 1}, {1, 0, 32, 0, 1}, {1, 0, 38, 0, 254}, {2, 1, 38, 0, 255}}, {2, 1}};
+    start_between_stores(f, 1, 0);
+    ends(&itself, f, 1, 6, 0);
+    start_between_stores(f, 2, 1);
+    ends(&asleep, f, 2, 6, 0);
+    plan_begin(f, 2);
+    plan_sleep(f, 1);
+    plan_sync(f, 0, TAMPERMAUVE_OP_START, 1);
+    store_at(f, 0, 6, 0);
+    plan_sync(f, 0, TAMPERMAUVE_OP_LOCK, 0);
+    store_at(f, 0, 8, 2);
+    plan_sync(f, 0, TAMPERMAUVE_OP_EXIT, 0);
+    ends(&locks, f, 2, 7, 0);
+}
+
+/* Whose copies a start commits, and that it drops them. */
+static void copies_cases(struct plan_file *f) {
+    /* Worker 1 copies the page before the fence; worker 0 has committed 1 at 0 when worker 1 commits its 5 by a start and loads
+     * from 0 again. set, store, arrival of both; end; start, load, store, end. */
+    static const struct expected drops = {"a load behind a start", {1, 0, 5, 0, 1}, 1, 11, 1, 3,
+        {{1, 0, 38, 0, 255}, {1, 1, 39, 0, 253}, {1, 1, 38, 0, 255}}, {1, 1}};
+    /* The 6 that worker 1 has stored when it is started is its own still, and lost when it fails. Arrival of 0; set, store, arrival;
+     * start, end; failure. */
+    static const struct expected others = {"bytes of a worker that is started", {0}, 1, 7, 1, 3,
+        {{1, 0, 39, 1, 253}, {1, 0, 38, 0, 255}, {1, 1, 33, 0, 254}}, {1, 2}};
+    plan_begin(f, 2);
+    store_at(f, 0, 1, 0);
+    store_at(f, 1, 5, 2);
+    plan_sync(f, 1, TAMPERMAUVE_OP_START, 0);
+    copy_word(f, 1, 0, 4);
+    ends(&drops, f, 2, 7, 0);
+    plan_begin(f, 2);
+    plan_sync(f, 0, TAMPERMAUVE_OP_START, 1);
+    store_at(f, 1, 6, 2);
+    plan_sync(f, 1, TAMPERMAUVE_OP_UNLOCK, 0);
+    ends(&others, f, 2, 4, 0);
+}
+
+/* A start leaves the caller's registers, and a started worker has its own, zero at first: worker 0 stores its 7 at 0 and 2 behind the
+ * start, worker 1 a zero at 0. set, arrival, start, two stores, end; store, arrival, end. */
+static void registers_case(struct plan_file *f) {
+    static const struct expected apart = {"registers at a start", {0, 0, 7}, 1, 9, 2, 3,
+        {{1, 0, 39, 1, 1}, {1, 0, 38, 0, 255}, {2, 1, 38, 0, 255}}, {1, 1}};
+    plan_begin(f, 2);
+    plan_sleep(f, 1);
+    plan_add(f, 0, TAMPERMAUVE_OP_SET, 0, 7);
+    plan_sync(f, 0, TAMPERMAUVE_OP_START, 1);
+    plan_add(f, 0, TAMPERMAUVE_OP_STORE, 0, 0);
+    plan_add(f, 0, TAMPERMAUVE_OP_STORE, 0, 2);
+    plan_add(f, 1, TAMPERMAUVE_OP_STORE, 0, 0);
+    ends(&apart, f, 2, 5, 0);
+}
+
+/* A start with count 1 commits as well, and the count stays. */
+static void locked_cases(struct plan_file *f) {
+    /* arrival, lock, set, store, start, unlock. Worker 1 joined the next list before worker 0 gave up the token: load, store,
+     * arrival, and the arrival of 0; both ends. */
+    static const struct expected unlocks = {"a start between lock and unlock", {1, 0, 1}, 1, 12, 2, 5,
+        {{1, 0, 32, 3, 1}, {1, 0, 39, 1, 1}, {1, 0, 33, 3, 0}, {2, 1, 38, 0, 255}, {2, 0, 38, 0, 255}}, {1, 1}};
+    /* arrival, lock, set, store, start, set, store, failure; arrival, end */
+    static const struct expected fails = {"a start with a lock commits", {1}, 1, 10, 2, 4,
+        {{1, 0, 32, 0, 1}, {1, 0, 39, 1, 1}, {1, 0, 38, 0, 254}, {2, 1, 38, 0, 255}}, {2, 1}};
+    plan_begin(f, 2);
+    plan_sleep(f, 1);
+    plan_sync(f, 0, TAMPERMAUVE_OP_LOCK, 3);
+    store_at(f, 0, 1, 0);
+    plan_sync(f, 0, TAMPERMAUVE_OP_START, 1);
+    plan_sync(f, 0, TAMPERMAUVE_OP_UNLOCK, 3);
+    copy_word(f, 1, 0, 2);
+    ends(&unlocks, f, 2, 7, 0);
+    plan_begin(f, 2);
+    plan_sleep(f, 1);
+    plan_sync(f, 0, TAMPERMAUVE_OP_LOCK, 0);
+    store_at(f, 0, 1, 0);
+    plan_sync(f, 0, TAMPERMAUVE_OP_START, 1);
+    store_at(f, 0, 2, 2);
+    plan_sync(f, 0, TAMPERMAUVE_OP_EXIT, 0);
+    ends(&fails, f, 2, 7, 0);
+}
+
+/* Worker 0 stores 1 at 0 before the fence; its start, with count 0, commits that and drops the copy. It runs on: loads the 1, doubles
+ * it and stores 2 at 2, which copies the page again, and queues at the barrier, which commits. Worker 1 fills the barrier. The next
+ * list is 2, who was started, 0, who was queued, 1. Worker 2 copies the 2 to 4. Moves: three and one to the fence, five and one with
+ * the token; three, one and one to the fence, three ends. */
+static void own_steps_case(struct plan_file *f) {
+    static const struct expected meets = {"a start, own steps and a barrier", {1, 0, 2, 0, 2}, 1, 18, 2, 6,
+        {{1, 0, 39, 2, 1}, {1, 0, 37, 0, 0}, {1, 1, 37, 0, 2}, {2, 2, 38, 0, 255}, {2, 0, 38, 0, 255}, {2, 1, 38, 0, 255}},
+        {1, 1, 1}};
+    plan_begin(f, 3);
+    plan_size(f, 0, 2);
+    plan_sleep(f, 2);
+    store_at(f, 0, 1, 0);
+    plan_sync(f, 0, TAMPERMAUVE_OP_START, 2);
+    plan_add(f, 0, TAMPERMAUVE_OP_LOAD, 1, 0);
+    plan_add(f, 0, TAMPERMAUVE_OP_ADD, 1, 1);
+    plan_add(f, 0, TAMPERMAUVE_OP_STORE, 1, 2);
+    plan_sync(f, 0, TAMPERMAUVE_OP_BARRIER, 0);
+    plan_sync(f, 1, TAMPERMAUVE_OP_BARRIER, 0);
+    copy_word(f, 2, 2, 4);
+    ends(&meets, f, 3, 10, 0);
+}
+
+/* Worker 0 queues at the barrier. Worker 1 gives up the token by a signal: the next list is 1. Worker 2 starts 5, then 4, and fills
+ * the barrier: 1 5 4 0 2. Worker 3 starts 4 in vain and gives up the token by its unlock: 1 5 4 0 2 3. So they end in round 2. Moves:
+ * four arrivals, 1, 1, 3 and 3 steps; six arrivals, six ends. */
+static void next_list_case(struct plan_file *f) {
+    static const struct expected order = {"the order of the next list", {0}, 1, 24, 2, 14,
+        {{1, 0, 37, 0, 0}, {1, 1, 35, 0, 255}, {1, 2, 39, 5, 1}, {1, 2, 39, 4, 1}, {1, 2, 37, 0, 2}, {1, 3, 39, 4, 253},
+         {1, 3, 32, 0, 1}, {1, 3, 33, 0, 0}, {2, 1, 38, 0, 255}, {2, 5, 38, 0, 255}, {2, 4, 38, 0, 255}, {2, 0, 38, 0, 255},
+         {2, 2, 38, 0, 255}, {2, 3, 38, 0, 255}}, {1, 1, 1, 1, 1, 1}};
+    plan_begin(f, 6);
+    plan_size(f, 0, 2);
+    plan_sleep(f, 4);
+    plan_sleep(f, 5);
+    plan_sync(f, 0, TAMPERMAUVE_OP_BARRIER, 0);
+    plan_sync(f, 1, TAMPERMAUVE_OP_SIGNAL, 0);
+    plan_sync(f, 2, TAMPERMAUVE_OP_START, 5);
+    plan_sync(f, 2, TAMPERMAUVE_OP_START, 4);
+    plan_sync(f, 2, TAMPERMAUVE_OP_BARRIER, 0);
+    plan_sync(f, 3, TAMPERMAUVE_OP_START, 4);
+    plan_sync(f, 3, TAMPERMAUVE_OP_LOCK, 0);
+    plan_sync(f, 3, TAMPERMAUVE_OP_UNLOCK, 0);
+    ends(&order, f, 6, 8, 0);
+}
+
+/* Worker 0 waits, and worker 1 wakes it into this round's list and starts worker 2 into the next one. */
+static void start_and_signal_case(struct plan_file *f) {
+    /* two arrivals; lock, wait; lock, start, signal, unlock: the next list is 2 1; the woken one's unlock: 2 1 0; three arrivals,
+     * three ends */
+    static const struct expected both = {"a start and a signal", {0}, 1, 15, 2, 10,
+        {{1, 0, 32, 0, 1}, {1, 0, 34, 0, 255}, {1, 1, 32, 0, 1}, {1, 1, 39, 2, 1}, {1, 1, 35, 0, 0}, {1, 1, 33, 0, 0},
+         {1, 0, 33, 0, 0}, {2, 2, 38, 0, 255}, {2, 1, 38, 0, 255}, {2, 0, 38, 0, 255}}, {1, 1, 1}};
+    plan_begin(f, 3);
+    plan_sleep(f, 2);
+    plan_sync(f, 0, TAMPERMAUVE_OP_LOCK, 0);
+    plan_sync(f, 0, TAMPERMAUVE_OP_WAIT, 0);
+    plan_sync(f, 0, TAMPERMAUVE_OP_UNLOCK, 0);
+    plan_sync(f, 1, TAMPERMAUVE_OP_LOCK, 0);
+    plan_sync(f, 1, TAMPERMAUVE_OP_START, 2);
+    plan_sync(f, 1, TAMPERMAUVE_OP_SIGNAL, 0);
+    plan_sync(f, 1, TAMPERMAUVE_OP_UNLOCK, 0);
+    ends(&both, f, 3, 7, 0);
+}
+
+/* The same, and the woken worker starts worker 2, when worker 1 has given up the token. */
+static void woken_starter_case(struct plan_file *f) {
+    /* two arrivals; lock, wait; lock, signal, unlock: the next list is 1; the woken one's start and unlock: 1 2 0; three arrivals,
+     * three ends */
+    static const struct expected woken = {"a woken worker starts another", {0}, 1, 15, 2, 10,
+        {{1, 0, 32, 0, 1}, {1, 0, 34, 0, 255}, {1, 1, 32, 0, 1}, {1, 1, 35, 0, 0}, {1, 1, 33, 0, 0}, {1, 0, 39, 2, 1},
+         {1, 0, 33, 0, 0}, {2, 1, 38, 0, 255}, {2, 2, 38, 0, 255}, {2, 0, 38, 0, 255}}, {1, 1, 1}};
+    plan_begin(f, 3);
+    plan_sleep(f, 2);
+    plan_sync(f, 0, TAMPERMAUVE_OP_LOCK, 0);
+    plan_sync(f, 0, TAMPERMAUVE_OP_WAIT, 0);
+    plan_sync(f, 0, TAMPERMAUVE_OP_START, 2);
+    plan_sync(f, 0, TAMPERMAUVE_OP_UNLOCK, 0);
+    plan_sync(f, 1, TAMPERMAUVE_OP_LOCK, 0);
+    plan_sync(f, 1, TAMPERMAUVE_OP_SIGNAL, 0);
+    plan_sync(f, 1, TAMPERMAUVE_OP_UNLOCK, 0);
+    ends(&woken, f, 3, 7, 0);
+}
+
+/* Worker 0 starts all seven others, the last first, and gives up the token: a next list of eight. Moves: an arrival and nine steps;
+ * eight arrivals, eight ends. */
+static void full_list_case(struct plan_file *f) {
+    static const struct expected eight = {"a next list of eight", {0}, 1, 26, 2, 17,
+        {{1, 0, 39, 7, 1}, {1, 0, 39, 6, 1}, {1, 0, 39, 5, 1}, {1, 0, 39, 4, 1}, {1, 0, 39, 3, 1}, {1, 0, 39, 2, 1},
+         {1, 0, 39, 1, 1}, {1, 0, 32, 0, 1}, {1, 0, 33, 0, 0}, {2, 7, 38, 0, 255}, {2, 6, 38, 0, 255}, {2, 5, 38, 0, 255},
+         {2, 4, 38, 0, 255}, {2, 3, 38, 0, 255}, {2, 2, 38, 0, 255}, {2, 1, 38, 0, 255}, {2, 0, 38, 0, 255}},
+        {1, 1, 1, 1, 1, 1, 1, 1}};
+    unsigned started;
+    plan_begin(f, 8);
+    plan_sleepers(f, 8);
+    for (started = 7; started > 0; started--) {
+        plan_sync(f, 0, TAMPERMAUVE_OP_START, started);
+    }
+    plan_sync(f, 0, TAMPERMAUVE_OP_LOCK, 0);
+    plan_sync(f, 0, TAMPERMAUVE_OP_UNLOCK, 0);
+    ends(&eight, f, 8, 9, 0);
+}
+
+static void sleeping_cases(struct plan_file *f) {
+    sleeper_cases(f);
+    stuck_case(f);
+    start_cases(f);
+    chain_case(f);
+    going_cases(f);
+    awake_case(f);
+    waiting_cases(f);
+    commit_cases(f);
+    copies_cases(f);
+    registers_case(f);
+    locked_cases(f);
+    own_steps_case(f);
+    next_list_case(f);
+    start_and_signal_case(f);
+    woken_starter_case(f);
+    full_list_case(f);
+}
+
 /* A refused run, with buffers of the lengths told: no byte of them is changed. */
 static void refused(const char *name, const struct plan_file *f, const uint8_t *turns, size_t turns_length, const size_t told[4],
                     uint32_t wanted) {
@@ -268,11 +677,26 @@ static void refusals(struct plan_file *f) {
     free(turns);
 }
 
+/* A sleep record of worker 0 is refused where the file is: behind 11 and 12, before 13. A turn that names a sleeper is none of 13. */
+static void sleep_refusals(struct plan_file *f) {
+    static const size_t right[4] = {MEMORY, LOG, REPORT, WORK}, wrong[4] = {MEMORY, LOG, REPORT, WORK - 1};
+    static const uint8_t turns[2] = {1, 2};
+    plan_begin(f, 2);
+    plan_sleep(f, 0);
+    refused("11 before 14", f, turns, 2, wrong, 11);
+    refused("14 before 13", f, turns, 2, right, 14u + 256u);
+    plan_begin(f, 2);
+    plan_sleep(f, 1);
+    refused("13 behind a sleeper's turn", f, turns, 2, right, 13);
+}
+
 int main(void) {
     static struct plan_file f;
     memory_cases(&f);
     token_cases(&f);
+    sleeping_cases(&f);
     refusals(&f);
+    sleep_refusals(&f);
     printf("run: %u checks, %u failures\n", checks, failures);
     return failures == 0 ? 0 : 1;
 }

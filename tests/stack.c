@@ -20,16 +20,28 @@ static uintptr_t top; /* where the caller of the call stands */
 
 enum { PARTS = 12 };
 
-/* The last worker wakes the first from a condition, and each that is woken the next; all meet at a barrier, and then go through
- * parts in which they load, store over page borders, lock and unlock. */
+/* A worker starts all others, and itself in vain. */
+static void write_starts(unsigned starter) {
+    unsigned w;
+    for (w = 0; w < TAMPERMAUVE_WORKERS_LIMIT; w++) {
+        plan_sync(&file, starter, TAMPERMAUVE_OP_START, w);
+    }
+}
+
+/* The first worker starts the others, who sleep. The last one wakes the first from a condition, and each that is woken the next;
+ * all meet at a barrier, and then go through parts in which they load, store over page borders, lock and unlock. */
 static void write_plan(void) {
     unsigned w, k;
     plan_begin(&file, TAMPERMAUVE_WORKERS_LIMIT);
     for (k = 0; k < TAMPERMAUVE_BARRIER_COUNT; k++) {
         plan_size(&file, k, TAMPERMAUVE_SIZE_LIMIT);
     }
+    plan_sleepers(&file, TAMPERMAUVE_WORKERS_LIMIT);
     for (w = 0; w < TAMPERMAUVE_WORKERS_LIMIT; w++) {
         size_t first = file.length;
+        if (w == 0) {
+            write_starts(w);
+        }
         plan_sync(&file, w, TAMPERMAUVE_OP_LOCK, 0);
         plan_sync(&file, w, w + 1u < TAMPERMAUVE_WORKERS_LIMIT ? TAMPERMAUVE_OP_WAIT : TAMPERMAUVE_OP_SIGNAL, 0);
         plan_sync(&file, w, TAMPERMAUVE_OP_BROADCAST, 0);
