@@ -11,8 +11,8 @@
  *     are fine as long as no call writes a buffer that another one uses.
  *   - Every input of these types is answered. A wrong length or wrong content is refused by number, never a fault.
  *   - A refusal changes no byte of any buffer.
- *   - A call uses less than TAMPERMAUVE_STACK_LIMIT bytes of the caller's stack (`make test-stack` measures it: some 600 for a
- *     check and 1,700 for a run).
+ *   - A call uses less than TAMPERMAUVE_STACK_LIMIT bytes of the caller's stack (`make test-stack` measures it: some 630 for a
+ *     check and 1,600 for a run).
  */
 #ifndef TAMPERMAUVE_H
 #define TAMPERMAUVE_H

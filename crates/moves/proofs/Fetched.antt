@@ -1,18 +1,18 @@
 -- The step at a worker's place. Callers want `fetched`, `in-range` and what comes before them in the last module.
 use Prim.Native.Nat.{ℕ, zero, suc, _+_, _*_, _<_, _≤_}
-use mathlib.Core.Bool.{Bool, true, false, not, _&&_, _||_}
+use mathlib.Core.Bool.{Bool, true, false, not, _&&_}
 use mathlib.Core.Logic.{inl, inr}
-use mathlib.Core.Option.{Option, some}
+use mathlib.Core.Option.{some}
 use mathlib.Core.Path.{_≡_, refl, sym, ap, _∙_, subst⁻¹}
 use mathlib.Core.List.{List}
 use native.Mathlib.Omega.{arith}
 use native.Mathlib.Decide.{decLt}
-use lib.Dec.{ltb, eqb}
+use lib.Dec.{eqb}
 use lib.ListN.{length, getD, List·getD-eq-default}
-use borrow.Author.Tests.{lt-ltb, le-ltb, ltb-false, eq-eqb, eqb-false, not-true, not-false}
+use borrow.Author.Tests.{lt-ltb, le-ltb, eq-eqb, eqb-false, not-true, not-false}
 use Rattle.protocol.specs.Ops.{opSet, opLoad, opStore, opAdd, opSubtract, opSkipZero, opSkipNonzero, opLock, opWait, opBarrier, opExit, opStart}
 use Rattle.protocol.specs.Format as format
-use Rattle.protocol.specs.Format.{registerCount, stepsLimit, Row, table, rowIn, rowOf, isStep, recordFrom, recordsFrom, recordCount, records, Step, sync, exit, stepOf}
+use Rattle.protocol.specs.Format.{registerCount, stepsLimit, Row, table, rowIn, isStep, recordFrom, recordsFrom, recordCount, records, Step, sync, exit, stepOf}
 use Rattle.protocol.specs.Format.{stepsIn, sizeIn, firstIn, planOf, barrierCount, recordLength, sizeLimit, recordsLimit, addressLimit, lockLimit}
 use Rattle.protocol.specs.Refusals.{accepted, check, wrongOperand, anyOf}
 use Rattle.protocol.specs.Steps.{stepsOf, stepAt}

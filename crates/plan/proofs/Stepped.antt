@@ -75,7 +75,9 @@ module _ {file : List ℕ} {i n : ℕ} {sizes sleepers : List ℕ} {opened : ℕ
       ap (λ (t : Bool). eqb (b .op) opBarrier && t)
       (ap not (read file i (k .least) (k .rules) .sized (b .number) .found)
       ∙ (not-not (eqb (sizeIn rs (b .number)) 0)
-      ∙ ap (λ (j : ℕ). eqb j 0) (sym (k .sizesRight (b .number) (barrier-number (b .op) (b .register) (b .number) (eqb-true _ _ q) (or-left (operandsOutside (rowOf (b .op)) (b .register) (b .number)) _ e)))))))
+      ∙ ap (λ (j : ℕ). eqb j 0)
+      (sym (k .sizesRight (b .number)
+      (barrier-number (b .op) (b .register) (b .number) (eqb-true _ _ q) (or-left (operandsOutside (rowOf (b .op)) (b .register) (b .number)) _ e)))))))
       (λ q. ap (λ (t : Bool). t && not (anyOf (names (b .number)) rs)) q ∙ sym (ap (λ (t : Bool). t && eqb (getD sizes (b .number) 0) 0) q))
     where
       not-not : (b : Bool) → not (not b) ≡ b

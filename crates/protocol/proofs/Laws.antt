@@ -10,7 +10,7 @@ use lib.ListN.{length, getD, List·getD-eq-default}
 use borrow.Author.Tests.{eq-eqb}
 use Rattle.protocol.specs.Format.{Step, own, sync, Sync, Plan, countFrom, upTo}
 use Rattle.protocol.specs.Steps.{Worker, newWorker, fateAs, stepsOf, stepAt}
-use Rattle.protocol.specs.Rounds.{State, workerAt, workerMoved, queueOf, fateIn, keep, Ruling, ruleOf, apply, syncMove, newRound, member}
+use Rattle.protocol.specs.Rounds.{State, workerAt, workerMoved, queueOf, fateIn, Ruling, ruleOf, apply, syncMove, newRound, member}
 use Rattle.protocol.specs.Turns.{workersOf, sleeps, firstFate, firstWorker, start, allArrived, can, behind, closing, closed, moveBy, move, ended, noneLeft}
 use Rattle.protocol.specs.RoundRun.{total, moveLimit}
 use Rattle.protocol.specs.Demands.{occurs, Prefix}

@@ -1,7 +1,8 @@
 -- A refusal's number is never 0, which stands for accepted, and fits its place in the code.
 use Prim.Native.Nat.{_≤_}
 use native.Mathlib.Omega.{arith}
-use Rattle.protocol.specs.Refusals.{Refusal, badLength, badMark, badPlan, badBarrier, badWorker, badOp, badOperand, tooManySteps, noSize, skipTooFar, badBuffer, tooManyTurns, badTurn, badSleep, numberOf}
+use Rattle.protocol.specs.Refusals.{Refusal, badLength, badMark, badPlan, badBarrier, badWorker, badOp, badOperand, tooManySteps, noSize, skipTooFar, badBuffer}
+use Rattle.protocol.specs.Refusals.{tooManyTurns, badTurn, badSleep, numberOf}
 
 pub numbered : (f : Refusal) → (1 ≤ numberOf f) × (numberOf f ≤ 14)
 numbered badLength = (omega arith, omega arith)

@@ -5,7 +5,8 @@ use mathlib.Core.List.{List, [], _∷_, map}
 use mathlib.Core.Option.{Option, none, some}
 use lib.Dec.{leb, eqb}
 use lib.ListN.{length, getD}
-use Rattle.protocol.specs.Ops.{opBarrierRecord, opSleepRecord, opSet, opLoad, opStore, opAdd, opSubtract, opSkipZero, opSkipNonzero, opLock, opUnlock, opWait, opSignal, opBroadcast, opBarrier, opExit, opStart}
+use Rattle.protocol.specs.Ops.{opBarrierRecord, opSleepRecord, opSet, opLoad, opStore, opAdd, opSubtract, opSkipZero, opSkipNonzero}
+use Rattle.protocol.specs.Ops.{opLock, opUnlock, opWait, opSignal, opBroadcast, opBarrier, opExit, opStart}
 
 -- "Two-byte numbers are low byte first."
 abbrev pub word : ℕ → ℕ → ℕ

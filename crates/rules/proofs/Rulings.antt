@@ -121,7 +121,9 @@ module _ {op number held : ℕ} {sizes : List ℕ} {waiting : Queue} {fates : Li
   unfolding syncOf ruleOf
   by-wait e m = record { same = λ plan queue fate met at fit named. rw e (m .same); sound = m .sound }
 
-  pub by-signal : 35 ≤ op → op ≤ 36 → Means held number (calledBy op number fates) waiting fates r (signalRule (found fates (listOf waiting) (conditionCode number)) held) → Ruled op number held sizes waiting fates r
+  pub by-signal : 35 ≤ op → op ≤ 36
+      → Means held number (calledBy op number fates) waiting fates r (signalRule (found fates (listOf waiting) (conditionCode number)) held)
+      → Ruled op number held sizes waiting fates r
   unfolding syncOf ruleOf
   by-signal low high m =
       record {

@@ -221,7 +221,10 @@ returns-4 c =
     record {
       verdict = sym (read-through (a .file .now) (a .count)) ∙ (ap (λ (j : ℕ). verdictFrom (a .file .now) (a .count) j) (sym all) ∙ inv .4);
       size = c .open-workers2 .ensures .size ∙ inv .3 .size;
-      read = λ q. records-read (subst (λ (j : ℕ). StepsKept (a .file .now) j (a .n) (a .sizes .now) (sleepersIn (before (a .file .now) (a .start))) (l .before .loop .opened) (l .before .loop .firsts)) all (inv .3)) (c .open-workers2 .ensures);
+      read = λ q.
+          let sleepers = sleepersIn (before (a .file .now) (a .start)) in
+          let firsts = l .before .loop .firsts in
+          records-read (subst (λ (j : ℕ). StepsKept (a .file .now) j (a .n) (a .sizes .now) sleepers (l .before .loop .opened) firsts) all (inv .3)) (c .open-workers2 .ensures);
     }
 
 pub read-by-table-spec : {M : Type 1} → statement M
