@@ -1,4 +1,4 @@
--- Document 01, a module for each of its sections, in its order.
+-- Document 01, as the requests of document 02 amend it, a module for each of its sections, in its order.
 
 -- "Plan file": the ops by name.
 pub mod Ops

@@ -1,4 +1,4 @@
--- Document 01, "Plan file": the ops by name. Three are those of the records that are no steps; the others are those of the table, in its order.
+-- Document 01, "Plan file", and document 02, One: the ops by name. Three are those of the records that are no steps; the others are those of the table, in its order.
 use Prim.Native.Nat.{ℕ}
 
 abbrev pub opPlanRecord : ℕ

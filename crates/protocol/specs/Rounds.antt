@@ -157,11 +157,11 @@ barrierRule b size queued held =
 abbrev pub exitRule : ℕ → Ruling
 exitRule held = cond (not (eqb held 0)) (failure held) (ruling committed held (leaves exited) [] [] outcomeNone)
 
--- One: "The caller commits, the sleeper joins the tail of the next round's list, and the caller keeps the token until it gives it up by
--- another step". "Outcome: 1, or 253 if the worker wasn't asleep; then the caller still commits and keeps the token, and nobody joins a list."
 abbrev pub isAsleep : Fate → Bool
 isAsleep f = elim f [ going ↦ false | exited ↦ false | failed ↦ false | asleep ↦ true | waiting q ↦ false ]
 
+-- One: "The caller commits, the sleeper joins the tail of the next round's list, and the caller keeps the token until it gives it up by
+-- another step". "Outcome: 1, or 253 if the worker wasn't asleep; then the caller still commits and keeps the token, and nobody joins a list."
 abbrev pub startRule : ℕ → Fate → ℕ → Ruling
 startRule w f held = cond (isAsleep f) (ruling committed held keeps [] (w ∷ []) outcomeStarted) (ruling committed held keeps [] [] outcomeAwake)
 

@@ -36,15 +36,15 @@ exit-requires : tie.Need-exit-requires
 exit-requires c κs = search needs
 
 returns-5 : tie.Need-returns-5
-returns-5 c = by-exit (c .before .if5 .taken) (c .exit .ensures _ _ _ _)
+returns-5 c = by-exit (omega (arith, c .before .if5 .taken)) (c .exit .ensures _ _ _ _)
 
 start-requires : tie.Need-start-requires
 start-requires c κs =
     let p = c .before .before .before .before .before .before .pre in
-    record { named = p .target (c .if6 .taken); awake = p .awake }
+    record { named = p .target (omega (arith, c .if6 .taken)); awake = p .awake }
 
 returns-6 : tie.Need-returns-6
-returns-6 c = by-start (c .before .if6 .taken) (c .start .ensures)
+returns-6 c = by-start (omega (arith, c .before .if6 .taken)) (c .start .ensures)
 
 signal-requires : tie.Need-signal-requires
 signal-requires c κs = search needs
