@@ -73,7 +73,7 @@ listings() {
 }
 
 apart() {
-    changed "a value that the simulator's tests expect" simulator/tests/cases.rs '0,/assert_eq!(answer, 0)/s//assert_eq!(answer, 1)/' 'test failed' make test-simulator
+    changed "a value that the simulator's tests expect" simulator/tests/cases.rs '0,/finished 12/s//finished 13/' 'test failed' make test-simulator
     changed "the twin" bench/twin.c 's/MOST_TURNS = 65535,/MOST_TURNS = 65534,/' 'expected: 0, got: 12' make test-twin
     changed "the table of mutants, without a fault" tests/differential/mutants '/^== step-129$/,/^$/d' 'faults, has' tests/mutants.sh 100
     changed "an input of the corpus" tests/fuzz/corpus/raw-race 's/M/N/' 'not those of tests/fuzz/corpus.sum: 603' make test-fuzz
@@ -111,7 +111,7 @@ promises() {
     changed "a definition that is not there" $page 's/`Refusals.numberOf`/`Refusals.numbersOf`/' '`Refusals.numbersOf` names nothing' make test-promises
     changed "a theorem that is not there" $page 's/`proofs\/Formed.runnable`/`proofs\/Formed.running`/' '`proofs/Formed.running` names nothing' make test-promises
     changed "a contract that is not there" $page 's/`words::word`/`words::words`/' '`words::words` names nothing' make test-promises
-    changed "a test that is not there" $page 's/| `lengths` |/| `length` |/' '`length` names nothing' make test-promises
+    changed "a test that is not there" $page 's/| `lengths`, /| `length`, /' '`length` names nothing' make test-promises
     changed "an edit that is not there" $page 's/`words\/clear-one-byte`/`words\/clear-two-bytes`/' '`words/clear-two-bytes` names nothing' make test-promises
     changed "a definition renamed" crates/protocol/specs/Refusals.antt 's/numberOf/numbersOf/' '`numberOf` names nothing' make test-promises
     changed "a test renamed" tests/check.c 's/\blengths(/all_lengths(/' '`lengths` names nothing' make test-promises
