@@ -18,7 +18,7 @@ use Rattle.protocol.proofs.Sound.{Sound}
 use Rattle.protocol.proofs.Invariant.{Core, Inv}
 use Rattle.protocol.proofs.Counting.{clash, member-some, occurs-same}
 use Rattle.protocol.proofs.Fence.{Can, runsUp, holds, can-view, all-arrived}
-use Rattle.protocol.proofs.OwnMoves.{Listed, listed}
+use Rattle.protocol.proofs.OwnMoves.{one-fate, Listed, listed}
 use Rattle.protocol.proofs.Rulings.{Lawful, applied-core, applied-arrived}
 use Rattle.protocol.proofs.Rules.{sleeper, waiter-awake, rule-lawful}
 use Rattle.protocol.proofs.Bounds.{bounded, placed-none, spare-bound}
@@ -128,6 +128,11 @@ module _ {plan : Plan} {s : State} {t : Schedule} {k : Kept} (sound : Sound plan
       let here : member w (s .waiting) ≡ true = ap (λ (ws : List ℕ). member w ws) (sym (shows .lists .waiting .list)) ∙ m in
       asleep-by w (waiting-known plan s (i .core) w here)
       ∙ waiter-awake (fateIn s w) (omega (arith, i .core .stands w .queued, member-some w (s .waiting) here))
+
+  -- whoever waits does so once
+  pub waiting-once : (w : ℕ) → occurs w (listOf (t .lists .waiting)) ≤ 1
+  waiting-once w =
+      omega (arith, ap (λ (ws : List ℕ). occurs w ws) (shows .lists .waiting .list), i .core .stands w .queued, one-fate (workerAt s w .fate))
 
   -- there is room for a sleeper
   pub lists-spare : (op number : ℕ) → (op ≡ opStart → number < workersOf plan)

@@ -1,10 +1,9 @@
 -- The holder's step: what its parts ask follows from the state that is shown, and the decision is the rule of the definitions.
 use Prim.Native.Nat.{ℕ, _+_, _*_, _≤_, _<_}
-use mathlib.Core.Bool.{Bool, cond}
+use mathlib.Core.Bool.{Bool}
 use mathlib.Core.Path.{_≡_, sym, ap, _∙_, subst}
 use mathlib.Core.List.{List, [], _∷_, _++_}
 use native.Mathlib.Omega.{arith}
-use lib.Dec.{eqb}
 use lib.ListN.{length, getD, drop, take}
 use lib.Seq.{sets, length-sets}
 use Rattle.protocol.specs.Format.{workersLimit, Plan, Sync, sync, planOf}
@@ -12,7 +11,7 @@ use Rattle.protocol.specs.Steps.{onCondition, atBarrier, stepAt}
 use Rattle.protocol.specs.Turns.{workersOf, move}
 use Rattle.protocol.specs.Report.{entryLength, entryBytes, logBytes}
 use Rattle.protocol.specs.Rounds as rounds
-use Rattle.protocol.specs.Rounds.{State, workerAt, queueOf, fateIn, ruleOf, apply, member, staysIn, joinsNext, memoryAfter, copiesAfter, fateAfter, opOf, operandOf, Entry, entryOf}
+use Rattle.protocol.specs.Rounds.{State, workerAt, queueOf, fateIn, ruleOf, apply, member, staysIn, joinsNext, memoryAfter, copiesAfter, opOf, operandOf, Entry, entryOf}
 use Rattle.protocol.proofs.Invariant.{Core}
 use Rattle.plan.specs.declared.decode.Record.{Record}
 use Rattle.worker.specs.Private.{heldAs}
@@ -23,18 +22,18 @@ use Rattle.journal.specs.Bytes.{entryAs}
 use Rattle.journal.proofs.Packing.{record-more}
 use Rattle.token.specs.Token.{TurnedOver}
 use Rattle.token.specs.declared.Round.{Round}
-use Rattle.rules.specs.Codes.{fateCode, syncOf}
-use Rattle.rules.specs.Rules.{rulingOf}
+use Rattle.rules.specs.Codes.{syncOf}
 use Rattle.rules.specs.Moves.{ListsMoved}
 use Rattle.rules.specs.Fates.{FatesSettled}
+use Rattle.rules.specs.Deciding.{Deciding, Decided}
 use Rattle.rules.proofs.Codes.{op-sync, operand-sync}
 use Rattle.moves.specs.Moves.{InRange}
 use Rattle.moves.proofs.Owned.{sync-kind}
 use Rattle.engine.specs.declared.state.Schedule.{Schedule}
-use Rattle.engine.specs.declared.hold.Decision.{Decision}
+use Rattle.rules.specs.declared.decision.Decision.{Decision}
 use Rattle.engine.specs.Kept.{Kept, privateOf}
 use Rattle.engine.specs.Refines.{Refines}
-use Rattle.engine.specs.Holding.{Deciding, Decided, BytesSettled}
+use Rattle.engine.specs.Holding.{BytesSettled}
 use Rattle.engine.specs.Moving.{stateOf, Syncing}
 use Rattle.engine.proofs.Facts as facts
 use Rattle.engine.proofs.Facts.{Holder, ruleAt, applied, hold-core, list-known, next-known}
@@ -65,23 +64,34 @@ module _ {r : Record} {w : ℕ} {t : Schedule} {sizes : List ℕ} {k : Kept} (h 
   in-range : InRange (workersOf plan) (plan .sizes) r
   in-range = range (h .here) (h .fetched)
 
-  pub deciding : Deciding r w count (t .lists) (k .fates)
+  pub deciding : Deciding (r .op) (r .number) w count (t .lists) (k .fates)
   deciding =
       let a = h .here in
+      let below = facts.waiting-below (sound a) (inv a) (a .refines) in
+      let waits = a .refines .lists .waiting .good in
       record {
-        least = h .late;
-        most = sync-kind in-range (h .late);
-        operand = in-range .object (h .late);
-        barrier = λ e. in-range .queue (omega arith) (omega arith);
-        target = λ e. omega (arith, in-range .target e, sound a .workers);
-        holder = small a;
-        count = held-small a;
-        list = a .refines .lists .list .good;
-        next = a .refines .lists .next .good;
-        waiting = a .refines .lists .waiting .good;
-        below = facts.waiting-below (sound a) (inv a) (a .refines);
-        awake = facts.waiting-awake (sound a) (inv a) (a .refines);
-        first = list-some a;
+        asked =
+            record {
+              least = h .late;
+              most = sync-kind in-range (h .late);
+              operand = in-range .object (h .late);
+              barrier = λ e. in-range .queue (omega arith) (omega arith);
+              target = λ e. omega (arith, in-range .target e, sound a .workers);
+              count = held-small a;
+              good = waits;
+              below = below;
+              awake = facts.waiting-awake (sound a) (inv a) (a .refines);
+            };
+        holding =
+            record {
+              holder = small a;
+              list = a .refines .lists .list .good;
+              next = a .refines .lists .next .good;
+              waiting = record { good = waits; below = below; once = facts.waiting-once (sound a) (inv a) (a .refines) };
+              first = list-some a;
+              total = facts.lists-fit (sound a) (inv a) (a .refines);
+              size = a .refines .entries .fates;
+            };
         total = facts.lists-spare (sound a) (inv a) (a .refines) (r .op) (r .number) (in-range .target);
       }
 
@@ -89,12 +99,12 @@ module _ {r : Record} {w : ℕ} {t : Schedule} {sizes : List ℕ} {k : Kept} (h 
   rounds-fit = let i = facts.rounds-fit (sound (h .here)) (inv (h .here)) (h .here .refines) in omega arith
 
   -- the ruling is that of the definitions
-  module _ {d : Decision} (x : Decided r w count sizes (t .lists) (k .fates) d) where
-    ruled : rulingOf (d .ruling) ≡ R
+  module _ {d : Decision} {fates′ : List ℕ} (x : Decided (r .op) (r .number) w count sizes (t .lists) (k .fates) d fates′) where
+    ruled : x .is ≡ R
     ruled =
         let a = h .here in
         let queue = facts.queue-listed (sound a) (inv a) (a .refines) in
-        x .ruled .same plan (queueOf s) (fateIn s)
+        x .ruled plan (queueOf s) (fateIn s)
         (λ l m. queue (onCondition (r .number)))
         (λ e. queue (atBarrier (r .number)))
         (λ e. sym (sizes-right a (r .number) (in-range .queue (omega arith) (omega arith))))
@@ -102,7 +112,7 @@ module _ {r : Record} {w : ℕ} {t : Schedule} {sizes : List ℕ} {k : Kept} (h 
         ∙ ap (λ (i : ℕ). ruleOf plan (queueOf s) (fateIn s) i y) (held-same a)
 
     lists-moved : ListsMoved (t .lists) R w (d .lists)
-    lists-moved = subst (λ (q : rounds.Ruling). ListsMoved (t .lists) q w (d .lists)) ruled (x .moved)
+    lists-moved = subst (λ (q : rounds.Ruling). ListsMoved (t .lists) q w (d .lists)) ruled (x .carried .moved)
 
     module _ (near : t .away ≡ 0) where
       holder : Holder s w
@@ -134,10 +144,9 @@ module _ {r : Record} {w : ℕ} {t : Schedule} {sizes : List ℕ} {k : Kept} (h 
           omega arith
 
       -- what the parts leave shows the state after the move
-      module _ {v : Worker} (same-worker : v ≡ heldAs (privateOf k w) (d .ruling .held))
-          {fates′ : List ℕ} (f : FatesSettled (k .fates) (d .ruling) w fates′)
-          {memory′ : List ℕ} {copied′ : List Bool} (b : BytesSettled (d .ruling .bytes) w (k .memory) (k .copied) (k .work) memory′ copied′)
-          {outcome : ℕ} (same-outcome : outcome ≡ d .ruling .outcome) {records′ : ℕ} {log′ : List ℕ} (counted : records′ ≡ t .counts .records + 1)
+      module _ {v : Worker} (same-worker : v ≡ heldAs (privateOf k w) (d .held))
+          {memory′ : List ℕ} {copied′ : List Bool} (b : BytesSettled (d .bytes) w (k .memory) (k .copied) (k .work) memory′ copied′)
+          {outcome : ℕ} (same-outcome : outcome ≡ d .outcome) {records′ : ℕ} {log′ : List ℕ} (counted : records′ ≡ t .counts .records + 1)
           (l : log′ ≡ sets (k .log) (entryLength * t .counts .records) (entryBytes (entryAs (t .counts .rounds + 1) w (r .op) (r .number) outcome)))
           {o : Round} {can′ : List Bool} (turned : TurnedOver (d .lists .list) (d .lists .next) w (t .counts .rounds) (k .can) o can′) where
         abbrev entry : Entry
@@ -145,25 +154,24 @@ module _ {r : Record} {w : ℕ} {t : Schedule} {sizes : List ℕ} {k : Kept} (h 
 
         same-entry : entry ≡ entryOf s w y (R .outcome)
         same-entry =
-            let q = deciding in
+            let q = deciding .asked in
             ap (λ (i : ℕ). entryAs (i + 1) w (r .op) (r .number) outcome) (sym (h .here .refines .rounds))
             ∙ (ap (λ (i : ℕ). entryAs (s .rounds + 1) w i (r .number) outcome) (sym (op-sync (r .op) (r .number) (q .least) (q .most)))
             ∙ (ap (λ (i : ℕ). entryAs (s .rounds + 1) w (opOf y) i outcome) (sym (operand-sync (r .op) (r .number) (q .least) (q .most) (in-range .exit)))
-            ∙ ap (λ (i : ℕ). entryAs (s .rounds + 1) w (opOf y) (operandOf y) i) (same-outcome ∙ ap (λ (q : rounds.Ruling). q .outcome) ruled)))
+            ∙ ap (λ (i : ℕ). entryAs (s .rounds + 1) w (opOf y) (operandOf y) i) (same-outcome ∙ (x .carried .outcome ∙ ap (λ (q : rounds.Ruling). q .outcome) ruled))))
 
         done : StepDone s w y R t k v (d .lists) o fates′ can′ copied′ memory′ log′
         done =
             let shows = h .here .refines in
+            let settled = subst (λ (q : rounds.Ruling). FatesSettled (k .fates) q w fates′) ruled (x .carried .settled) in
+            let bytes = x .carried .bytes ∙ ap (λ (q : rounds.Ruling). q .bytes) ruled in
             record {
               lists = lists-moved;
-              worker = same-worker ∙ ap (λ (q : rounds.Ruling). heldAs (privateOf k w) (q .held)) ruled;
-              fateCount = f .size;
-              fates = λ u.
-                  f .code u
-                  ∙ (ap (λ (i : ℕ). cond (eqb u w) i (cond (member u (rulingOf (d .ruling) .wakes ++ rulingOf (d .ruling) .joins)) 0 (getD (k .fates) u 0))) (sym (x .ruled .sound .coded))
-                  ∙ ap (λ (q : rounds.Ruling). cond (eqb u w) (fateCode (fateAfter (q .goes))) (cond (member u (q .wakes ++ q .joins)) 0 (getD (k .fates) u 0))) ruled);
-              shared = b .shared ∙ ap (λ (q : rounds.Ruling). memoryAfter (q .bytes) (copiesIn (k .copied) (k .work) w) (k .memory)) ruled;
-              mine = b .mine ∙ ap (λ (q : rounds.Ruling). copiesAfter (q .bytes) (copiesIn (k .copied) (k .work) w)) ruled;
+              worker = same-worker ∙ ap (heldAs (privateOf k w)) (x .carried .held ∙ ap (λ (q : rounds.Ruling). q .held) ruled);
+              fateCount = settled .size;
+              fates = settled .code;
+              shared = b .shared ∙ ap (λ (i : rounds.Uncommitted). memoryAfter i (copiesIn (k .copied) (k .work) w) (k .memory)) bytes;
+              mine = b .mine ∙ ap (λ (i : rounds.Uncommitted). copiesAfter i (copiesIn (k .copied) (k .work) w)) bytes;
               others = b .others;
               memorySize = b .size ∙ shows .bytes .sizes .memoryLength;
               markSize = b .markSize ∙ shows .bytes .marks;

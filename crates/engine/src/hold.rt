@@ -1,18 +1,14 @@
 // The holder's synchronising step: decided by its rule, then written.
 use crate::state::Schedule;
-use format::fates::AT_BARRIER;
 use format::limits::BARRIER_COUNT;
 use format::limits::WORKERS_LIMIT;
 use journal::log::packed;
 use journal::report::Counts;
 use pages::SLOTS;
 use plan::decode::Record;
-use rules::fates::settle_fates;
+use rules::decision::decide;
 use rules::lists::Lists;
-use rules::lists::moved;
-use rules::ruling::Ruling;
 use rules::ruling::Uncommitted;
-use rules::ruling::rule;
 use token::turn_over;
 use worker::Worker;
 use writer::append_record;
@@ -25,36 +21,8 @@ ghost use Rattle.journal.specs.Bytes.{entryAs};
 ghost use Rattle.writer.specs.Appended.{Appending};
 ghost use Rattle.pages.specs.Copies.{Lent};
 ghost use Rattle.engine.specs.Kept.{kept};
-ghost use Rattle.engine.specs.Holding.{Deciding, Decided, BytesSettled};
+ghost use Rattle.engine.specs.Holding.{BytesSettled};
 ghost use Rattle.engine.specs.Moving.{Syncing, Synced};
-
-// A synchronising step's ruling, and the lists after it.
-pub struct Decision {
-    pub ruling: Ruling,
-    pub lists: Lists,
-}
-
-// Decides the holder h's step.
-fn decide(
-    r: Record,
-    h: u64,
-    held: u64,
-    sizes: &[u8; BARRIER_COUNT],
-    lists: Lists,
-    fates: &[u64; WORKERS_LIMIT],
-) -> Decision
-    requires { ⌜ Deciding r h held lists (now fates) ⌝ }
-    ensures { λ d. ⌜ Decided r h held (now (sizes .entry)) lists (now (fates .entry)) d ⌝ }
-{
-    let waiting = lists.waiting;
-    let ruling = rule(r.op, r.number, held, sizes, waiting, fates);
-    let code = AT_BARRIER + 2 * (r.number as u64);
-    let after = moved(lists, ruling, h, fates, code);
-    Decision {
-        ruling,
-        lists: after,
-    }
-}
 
 // The holder's copies: kept, committed to shared memory, or lost.
 fn settle_bytes(
@@ -122,18 +90,16 @@ pub fn hold(
     let count = held[w];
     let lists = t.lists;
     let counts = t.counts;
-    let d = decide(r, w as u64, count, sizes, lists, fates);
-    let ruling = d.ruling;
+    let d = decide(r.op, r.number, w, count, sizes, lists, fates);
     let after = d.lists;
-    let bytes = ruling.bytes;
-    settle_fates(fates, ruling, w);
+    let bytes = d.bytes;
     settle_bytes(bytes, w, memory, work, copied);
     let v = Worker {
         place: places[w],
         held: count,
         registers: registers[w],
     };
-    let stepped = v.synchronise(ruling.held, ruling.outcome);
+    let stepped = v.synchronise(d.held, d.outcome);
     let v = stepped.worker;
     let records = record_step(r, w, stepped.outcome, counts.rounds, counts.records, log);
     let list = after.list;

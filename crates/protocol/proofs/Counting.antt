@@ -7,7 +7,7 @@ use mathlib.Core.Bool.{Bool, true, false, cond, _||_}
 use mathlib.Core.Path.{_≡_, refl, sym, ap, _∙_, subst⁻¹}
 use mathlib.Core.List.{List, [], _∷_, _++_}
 use lib.Dec.{eqb}
-use lib.ListN.{length, getD, set, length-set}
+use lib.ListN.{length, getD, set, take, length-set}
 use lib.Seq.{getD-set-same, getD-set-other}
 use borrow.Author.Tests.{eq-eqb, ne-eqb}
 use Rattle.protocol.specs.Format.{countFrom}
@@ -51,10 +51,12 @@ unfolding occurs
 occurs-append w [] vs = omega arith
 occurs-append w (u ∷ us) vs = omega (arith, occurs-append w us vs)
 
--- the first of a list occurs no more often than in all of it
-pub occurs-first : (w v : ℕ) (ws : List ℕ) → occurs w (v ∷ []) ≤ occurs w (v ∷ ws)
+-- in a list's first ones, however many, nobody occurs more often than in all of it
+pub occurs-take : (w k : ℕ) (ws : List ℕ) → occurs w (take k ws) ≤ occurs w ws
 unfolding occurs
-occurs-first w v ws = omega arith
+occurs-take w zero ws = omega arith
+occurs-take w (suc k) [] = omega arith
+occurs-take w (suc k) (v ∷ vs) = omega (arith, occurs-take w k vs)
 
 -- a test holds of one number and not of the other: they differ
 differ : (t : ℕ → Bool) (w v : ℕ) → t w ≡ true → t v ≡ false → eqb w v ≡ false

@@ -3,18 +3,19 @@ use Prim.Native.Nat.{ℕ, _+_, _-_, _<_, _≤_}
 use native.Mathlib.Decide.{ℕ-discrete}
 use native.Mathlib.Omega.{arith}
 use mathlib.Core.Bool.{Bool, true, false, cond, not}
-use mathlib.Core.Path.{_≡_, refl, sym, ap, _∙_}
-use mathlib.Core.List.{List, [], _∷_}
+use mathlib.Core.Path.{_≡_, refl, sym, ap, _∙_, subst}
+use mathlib.Core.List.{List, [], append-nil}
 use lib.Dec.{eqb, ltb}
-use lib.ListN.{length, getD}
+use lib.ListN.{length, getD, take}
+use lib.Seq.{take-length}
 use Rattle.protocol.specs.Format.{Sync, lock, unlock, wait, signal, broadcast, barrier, startWorker, exit, sync, Plan}
 use Rattle.protocol.specs.Steps.{QueueName, onCondition, atBarrier, Fate, going, exited, failed, asleep, waiting, stepsOf, stepAt}
-use Rattle.protocol.specs.Rounds.{State, workerAt, waitsOn, keep, queueOf, fateIn, isAsleep, Uncommitted, committed, lost, Goes, keeps, gives, leaves, ruling, failure, givesAtZero}
-use Rattle.protocol.specs.Rounds.{commitsAtZero, lockRule, unlockRule, waitRule, signalRule, barrierRule, startRule, exitRule, ruleOf, fateAfter, hasArrived}
+use Rattle.protocol.specs.Rounds.{State, workerAt, waitsOn, keep, queueOf, fateIn, isAsleep, Uncommitted, committed, lost, Goes, keeps, gives, leaves, ruling, failure, givesAtZero, outcomeNone}
+use Rattle.protocol.specs.Rounds.{commitsAtZero, lockRule, unlockRule, waitRule, wakeRule, signalRule, broadcastRule, barrierRule, startRule, exitRule, ruleOf, fateAfter, hasArrived}
 use Rattle.protocol.specs.Demands.{occurs}
 use Rattle.protocol.proofs.Bools.{split}
 use Rattle.protocol.proofs.Invariant.{runs, waits, rests, gone, Core}
-use Rattle.protocol.proofs.Counting.{clash, occurs-one, occurs-none, occurs-empty, occurs-first, occurs-kept, occurs-dropped}
+use Rattle.protocol.proofs.Counting.{clash, occurs-one, occurs-none, occurs-empty, occurs-take, occurs-kept, occurs-dropped}
 use Rattle.protocol.proofs.OwnMoves.{Listed, inside-steps}
 use Rattle.protocol.proofs.Rulings.{Leaving, Lawful}
 
@@ -138,24 +139,28 @@ module _ (plan : Plan) (s : State) (h : ℕ) (c : Core plan s) (l : Listed plan 
         go true = fails
         go false = quiet _ _ (leaves (waiting (onCondition q))) _ (omega (arith, c .sane h .heldPlace)) (c .sane h .heldSteps) (omega arith) refl
 
-    signals : (q : ℕ) → Lawful plan s h (signalRule (queueOf s (onCondition q)) (workerAt s h .held))
-    signals q = go (queueOf s (onCondition q)) refl
-      where
-        k : ℕ
-        k = workerAt s h .held
+    -- some or all of a condition's queue go behind the holder, the first of them first, whatever the outcome
+    wakes-some : (q k o : ℕ) → Lawful plan s h (wakeRule (take k (queueOf s (onCondition q))) (workerAt s h .held) o)
+    wakes-some q k o =
+        let queued : List ℕ = queueOf s (onCondition q) in
+        let goes = gives-or-keeps (eqb (workerAt s h .held) 0) in
+        record {
+          out = λ w. omega (arith, ap (occurs w) (append-nil (take k queued)), occurs-take w k queued, queue-counts s (onCondition q) w);
+          woken = λ w z. queue-arrived plan s (onCondition q) w c (omega (arith, occurs-take w k queued));
+          joined = λ w z. absurd (omega (arith, occurs-empty w));
+          heldPlace = omega (arith, c .sane h .heldPlace);
+          heldSteps = c .sane h .heldSteps;
+          within = omega (arith, goes .0);
+          leaving = goes .1;
+        }
 
-        go : (ws : List ℕ) → queueOf s (onCondition q) ≡ ws → Lawful plan s h (signalRule ws k)
-        go [] e = quiet _ _ (givesAtZero k) _ (omega (arith, c .sane h .heldPlace)) (c .sane h .heldSteps) (omega (arith, gives-or-keeps (eqb k 0) .0)) (gives-or-keeps (eqb k 0) .1)
-        go (x ∷ xs) e =
-            record {
-              out = λ w. omega (arith, occurs-first w x xs, rw e at (queue-counts s (onCondition q) w));
-              woken = λ w z. queue-arrived plan s (onCondition q) w c (rw e (omega (arith, occurs-first w x xs)));
-              joined = λ w z. absurd (omega (arith, occurs-empty w));
-              heldPlace = omega (arith, c .sane h .heldPlace);
-              heldSteps = c .sane h .heldSteps;
-              within = omega (arith, gives-or-keeps (eqb k 0) .0);
-              leaving = gives-or-keeps (eqb k 0) .1;
-            }
+    signals : (q : ℕ) → Lawful plan s h (signalRule (queueOf s (onCondition q)) (workerAt s h .held))
+    signals q = wakes-some q 1 (getD (queueOf s (onCondition q)) 0 outcomeNone)
+
+    broadcasts : (q : ℕ) → Lawful plan s h (broadcastRule (queueOf s (onCondition q)) (workerAt s h .held))
+    broadcasts q =
+        let queued : List ℕ = queueOf s (onCondition q) in
+        subst (λ (ws : List ℕ). Lawful plan s h (wakeRule ws (workerAt s h .held) (length queued))) (take-length queued) (wakes-some q (length queued) (length queued))
 
     meets : (b : ℕ) (size : ℕ) → Lawful plan s h (barrierRule b size (queueOf s (atBarrier b)) (workerAt s h .held))
     meets b size = go (not (eqb (workerAt s h .held) 0)) (ltb (length (queueOf s (atBarrier b))) (size - 1))
@@ -229,7 +234,7 @@ rule-lawful plan s h y c l e = go y e
     go (unlock n) e = unlocks plan s h c l (real-inside plan h k (unlock n) refl e)
     go (wait q) e = waits-on plan s h c l (real-inside plan h k (wait q) refl e) q
     go (signal q) e = signals plan s h c l (real-inside plan h k (signal q) refl e) q
-    go (broadcast q) e = signals plan s h c l (real-inside plan h k (broadcast q) refl e) q
+    go (broadcast q) e = broadcasts plan s h c l (real-inside plan h k (broadcast q) refl e) q
     go (barrier b) e = meets plan s h c l (real-inside plan h k (barrier b) refl e) b (getD (plan .sizes) b 0)
     go (startWorker v) e = starts plan s h c l (real-inside plan h k (startWorker v) refl e) v
     go exit e = exits plan s h c l

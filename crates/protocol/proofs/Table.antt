@@ -110,6 +110,23 @@ locked w steps = rec w 32 0 0 ++ steps ++ rec w 33 0 0
 abbrev pub waiter : List ℕ
 waiter = planRec 1 ++ rec 0 32 0 0 ++ rec 0 34 0 0
 
+-- lock, wait on a condition, unlock
+abbrev waits : ℕ → ℕ → List ℕ
+waits w condition = locked w (rec w 34 0 condition)
+
+-- a lock with count 0 before it, and a wait
+abbrev waited : ℕ → ℕ → List ℕ
+waited w condition = entry 1 w 32 0 1 ++ entry 1 w 34 condition 255
+
+-- the unlock to count 0, in round 1
+abbrev unlocked : ℕ → List ℕ
+unlocked w = entry 1 w 33 0 0
+
+-- the exits of round 2, in this order
+abbrev leave : List ℕ → List ℕ
+leave [] = []
+leave (w ∷ ws) = entry 2 w 38 0 255 ++ leave ws
+
 abbrev case : List ℕ → List ℕ → Fed → List ℕ → List ℕ → List ℕ → Case
 case f l t m g r = record { file = f; lent = l; fed = t; memory = m; log = g; report = r }
 
@@ -163,4 +180,43 @@ cases =
     (entry 1 0 37 0 0 ++ entry 1 1 39 3 1 ++ entry 1 1 37 0 2 ++ entry 1 2 32 0 1 ++ entry 1 2 33 0 0
     ++ entry 2 3 38 0 255 ++ entry 2 0 38 0 255 ++ entry 2 1 38 0 255 ++ entry 2 2 38 0 255)
     (report 1 4 18 2 9 (1 ∷ 1 ∷ 1 ∷ 1 ∷ replicate 4 255))
+    -- Two: "all waiters go directly behind the holder, first waiter first": workers 0, 2 and 3 wait on condition 0, worker 1 on condition 1.
+    -- Worker 4, with a lock, keeps the token until its unlock.
+    ∷ case (planRec 5 ++ waits 0 0 ++ waits 1 1 ++ waits 2 0 ++ waits 3 0 ++ locked 4 (rec 4 36 0 0)) [] listing []
+    (waited 0 0 ++ waited 1 1 ++ waited 2 0 ++ waited 3 0 ++ entry 1 4 32 0 1 ++ entry 1 4 36 0 3 ++ unlocked 4
+    ++ unlocked 0 ++ unlocked 2 ++ unlocked 3 ++ leave (4 ∷ 0 ∷ 2 ∷ 3 ∷ []))
+    (report 2 5 27 2 18 (1 ∷ 3 ∷ 1 ∷ 1 ∷ 1 ∷ replicate 3 255))
+    -- The same without the lock: worker 4 gives up the token.
+    ∷ case (planRec 5 ++ waits 0 0 ++ waits 1 1 ++ waits 2 0 ++ waits 3 0 ++ rec 4 36 0 0) [] listing []
+    (waited 0 0 ++ waited 1 1 ++ waited 2 0 ++ waited 3 0 ++ entry 1 4 36 0 3
+    ++ unlocked 0 ++ unlocked 2 ++ unlocked 3 ++ leave (4 ∷ 0 ∷ 2 ∷ 3 ∷ []))
+    (report 2 5 25 2 16 (1 ∷ 3 ∷ 1 ∷ 1 ∷ 1 ∷ replicate 3 255))
+    -- Two: "0 if none": worker 0 without a lock, after a store that the broadcast commits, and worker 1 with one.
+    ∷ case (planRec 2 ++ stores 0 9 ++ rec 0 36 0 3 ++ locked 1 (rec 1 36 0 3)) [] listing (9 ∷ [])
+    (entry 1 0 36 3 0 ++ entry 1 1 32 0 1 ++ entry 1 1 36 3 0 ++ unlocked 1 ++ leave (0 ∷ 1 ∷ []))
+    (report 1 2 12 2 6 (both 1 1))
+    -- Two, behind a signal of the same holder: the list is 3, 0, 4 after the signal and 3, 1, 2, 0, 4 after the broadcast.
+    ∷ case
+    (planRec 5 ++ waits 0 0 ++ waits 1 0 ++ waits 2 0 ++ locked 3 (rec 3 35 0 0 ++ rec 3 36 0 0) ++ locked 4 [])
+    [] listing []
+    (waited 0 0 ++ waited 1 0 ++ waited 2 0 ++ entry 1 3 32 0 1 ++ entry 1 3 35 0 0 ++ entry 1 3 36 0 2 ++ unlocked 3
+    ++ unlocked 1 ++ unlocked 2 ++ unlocked 0 ++ entry 1 4 32 0 1 ++ unlocked 4 ++ leave (3 ∷ 1 ∷ 2 ∷ 0 ∷ 4 ∷ []))
+    (report 1 5 30 2 20 (replicate 5 1 ++ replicate 3 255))
+    -- Two workers signal back and forth: six come into the list of round 1.
+    ∷ case
+    (planRec 2 ++ locked 0 (rec 0 34 0 0 ++ rec 0 35 0 1 ++ rec 0 34 0 0 ++ rec 0 35 0 1)
+    ++ locked 1 (rec 1 35 0 0 ++ rec 1 34 0 1 ++ rec 1 35 0 0 ++ rec 1 34 0 1))
+    [] listing []
+    (waited 0 0 ++ entry 1 1 32 0 1 ++ entry 1 1 35 0 0 ++ entry 1 1 34 1 255 ++ entry 1 0 35 1 1 ++ entry 1 0 34 0 255
+    ++ entry 1 1 35 0 0 ++ entry 1 1 34 1 255 ++ entry 1 0 35 1 1 ++ unlocked 0 ++ unlocked 1 ++ leave (0 ∷ 1 ∷ []))
+    (report 1 2 18 2 14 (both 1 1))
+    -- Three workers broadcast in turn: nine come into the list of round 1.
+    ∷ case
+    (planRec 3 ++ locked 0 (rec 0 34 0 0 ++ rec 0 34 0 0 ++ rec 0 36 0 0) ++ locked 1 (rec 1 34 0 0 ++ rec 1 36 0 0 ++ rec 1 34 0 0)
+    ++ locked 2 (rec 2 36 0 0 ++ rec 2 34 0 0 ++ rec 2 34 0 0))
+    [] listing []
+    (waited 0 0 ++ waited 1 0 ++ entry 1 2 32 0 1 ++ entry 1 2 36 0 2 ++ entry 1 2 34 0 255 ++ entry 1 0 34 0 255
+    ++ entry 1 1 36 0 2 ++ entry 1 1 34 0 255 ++ entry 1 2 34 0 255 ++ entry 1 0 36 0 2 ++ unlocked 0 ++ unlocked 1 ++ unlocked 2
+    ++ leave (0 ∷ 1 ∷ 2 ∷ []))
+    (report 1 3 24 2 18 (replicate 3 1 ++ replicate 5 255))
     ∷ []

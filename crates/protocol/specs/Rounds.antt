@@ -1,9 +1,9 @@
--- Document 01, "Rounds", and document 02, One: the state of a run, and the rule of each synchronising step.
+-- Document 01, "Rounds", and document 02, One and Two: the state of a run, and the rule of each synchronising step.
 use Prim.Native.Nat.{ℕ, _+_, _-_}
 use mathlib.Core.Bool.{Bool, true, false, cond, not, _||_}
 use mathlib.Core.List.{List, [], _∷_, _++_}
 use lib.Dec.{ltb, eqb}
-use lib.ListN.{length, getD, set}
+use lib.ListN.{length, getD, set, take}
 use Rattle.protocol.specs.Ops.{opLock, opUnlock, opWait, opSignal, opBroadcast, opBarrier, opExit, opStart}
 use Rattle.protocol.specs.Format.{Own, Sync, lock, unlock, wait, signal, broadcast, barrier, startWorker, exit, Plan}
 use Rattle.protocol.specs.Pages.{Copies, noCopies, commit}
@@ -138,11 +138,17 @@ unlockRule held =
 abbrev pub waitRule : ℕ → ℕ → Ruling
 waitRule c held = cond (eqb held 0) (failure held) (ruling committed held (leaves (waiting (onCondition c))) [] [] outcomeNone)
 
--- "Signal: commit; the first waiter, if any, goes directly behind the holder in this round's list."
--- The outcome is "the woken worker or 255". "Broadcast: as signal."
+-- A signal and a broadcast commit; whom they wake "goes directly behind the holder in this round's list".
+abbrev pub wakeRule : List ℕ → ℕ → ℕ → Ruling
+wakeRule woken held outcome = ruling committed held (givesAtZero held) woken [] outcome
+
+-- "Signal: .. the first waiter, if any". The outcome is "the woken worker or 255".
 abbrev pub signalRule : List ℕ → ℕ → Ruling
-signalRule [] held = ruling committed held (givesAtZero held) [] [] outcomeNone
-signalRule (w ∷ ws) held = ruling committed held (givesAtZero held) (w ∷ []) [] w
+signalRule queued held = wakeRule (take 1 queued) held (getD queued 0 outcomeNone)
+
+-- Two: "all waiters go directly behind the holder, first waiter first. The outcome is the number woken, 0 if none."
+abbrev pub broadcastRule : List ℕ → ℕ → Ruling
+broadcastRule queued held = wakeRule queued held (length queued)
 
 -- "Barrier: commit. With fewer than size − 1 queued, leave and queue. Otherwise the queued workers join the next list in order of arrival,
 -- then the caller." "Failure: .. barrier .. with count above 0". The outcome is "0 if it queued, else the size".
@@ -171,7 +177,7 @@ ruleOf plan queue fates held (lock k) = lockRule held
 ruleOf plan queue fates held (unlock k) = unlockRule held
 ruleOf plan queue fates held (wait c) = waitRule c held
 ruleOf plan queue fates held (signal c) = signalRule (queue (onCondition c)) held
-ruleOf plan queue fates held (broadcast c) = signalRule (queue (onCondition c)) held
+ruleOf plan queue fates held (broadcast c) = broadcastRule (queue (onCondition c)) held
 ruleOf plan queue fates held (barrier b) = barrierRule b (getD (plan .sizes) b 0) (queue (atBarrier b)) held
 ruleOf plan queue fates held (startWorker w) = startRule w (fates w) held
 ruleOf plan queue fates held exit = exitRule held

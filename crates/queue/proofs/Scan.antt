@@ -13,7 +13,7 @@ use Rattle.queue.specs.declared.Queue.{Queue}
 use Rattle.queue.specs.List.{listOf, Good, Holds}
 use Rattle.queue.proofs.Laws.{good-short, rest-less, first}
 
-none-left : (t : ℕ → Bool) (ws : List ℕ) → noneLeft ws ≡ true → keep t ws ≡ []
+pub none-left : (t : ℕ → Bool) (ws : List ℕ) → noneLeft ws ≡ true → keep t ws ≡ []
 unfolding keep
 none-left t [] e = refl
 none-left t (w ∷ ws) e = cc

@@ -9,12 +9,11 @@ use mathlib.Core.List.{List, [], _∷_, _++_}
 use lib.Dec.{eqb}
 use lib.ListN.{length, getD, set, length-set}
 use lib.Seq.{getD-set-same, getD-set-other}
-use Rattle.protocol.specs.Rounds.{member}
-use Rattle.queue.specs.List.{listOf, setAll}
+use Rattle.protocol.specs.Rounds as rounds
+use Rattle.protocol.specs.Rounds.{member, fateAfter}
+use Rattle.queue.specs.List.{setAll}
 use Rattle.queue.proofs.Walk.{length-all}
-use Rattle.rules.specs.declared.ruling.Ruling.{Ruling}
-use Rattle.rules.specs.Codes.{codeAfter}
-use Rattle.rules.specs.Rules.{wokenOf, joinedOf}
+use Rattle.rules.specs.Codes.{fateCode}
 use Rattle.rules.specs.Fates.{FatesSettled}
 
 -- 0 stands past the end too
@@ -40,24 +39,20 @@ getD-freed (v ∷ vs) fates w = getD-freed vs (set fates v 0) w ∙ rw getD-zero
     go true false x = refl
     go false b x = refl
 
--- those who wait or sleep no more
-abbrev leaving : Ruling → List ℕ
-leaving r = wokenOf (r .wakes) (listOf (r .queued)) ++ joinedOf (r .joins || r .starts) (listOf (r .queued))
-
 -- the holder's fate, stored last
 pub settled :
-    (before : List ℕ) (r : Ruling) (h : ℕ) (freed : List ℕ) (code : ℕ)
-    → length before ≡ 8 → h < 8 → freed ≡ setAll 0 (leaving r) before → code ≡ codeAfter (r .goes)
-    → FatesSettled before r h (set freed h code)
-settled before r h freed code long fits same e =
-    let left : length freed ≡ 8 = ap length same ∙ length-all 0 (leaving r) before ∙ long in
+    (before : List ℕ) (is : rounds.Ruling) (h : ℕ) (freed : List ℕ) (code : ℕ)
+    → length before ≡ 8 → h < 8 → freed ≡ setAll 0 (is .wakes ++ is .joins) before → code ≡ fateCode (fateAfter (is .goes))
+    → FatesSettled before is h (set freed h code)
+settled before is h freed code long fits same e =
+    let left : length freed ≡ 8 = ap length same ∙ length-all 0 (is .wakes ++ is .joins) before ∙ long in
     record { size = simp length-set left; code = λ w. go w (eqb w h) refl left }
   where
     go :
         (w : ℕ) (b : Bool) → eqb w h ≡ b → length freed ≡ 8
         → getD (set freed h code) w 0
-        ≡ cond b (codeAfter (r .goes)) (cond (member w (leaving r)) 0 (getD before w 0))
+        ≡ cond b (fateCode (fateAfter (is .goes))) (cond (member w (is .wakes ++ is .joins)) 0 (getD before w 0))
     go w true y left = rw (eqb-true w h y) (getD-set-same freed h code 0 (omega arith) ∙ e)
     go w false n left =
         getD-set-other freed h w code 0 (eqb-false w h n)
-        ∙ rw same (getD-freed (leaving r) before w)
+        ∙ rw same (getD-freed (is .wakes ++ is .joins) before w)

@@ -1,18 +1,16 @@
 -- The laws of the rules: each branch of the code as the definitions have it.
 -- Assumes nothing.
 use Prim.Native.Nat.{ℕ, _+_, _-_, _≤_, _<_}
-use native.Mathlib.Nat.{eq-or-lt-of-le}
 use native.Mathlib.Omega.{arith}
 use borrow.Author.Tests.{eq-eqb, ne-eqb, eqb-true}
 use mathlib.Core.Bool.{true, false, _||_, true≢false}
-use mathlib.Core.Logic.{⊎-elim}
 use mathlib.Core.Path.{_≡_, refl, sym, ap, _∙_, subst⁻¹}
 use mathlib.Core.List.{List, [], _∷_}
 use lib.Dec.{eqb}
 use lib.ListN.{length, getD, take}
-use Rattle.protocol.specs.Ops.{opBarrier, opStart}
+use Rattle.protocol.specs.Ops.{opLock, opUnlock, opWait, opSignal, opBroadcast, opBarrier, opExit, opStart}
 use Rattle.protocol.specs.Rounds as rounds
-use Rattle.protocol.specs.Rounds.{member, committed, keeps, givesAtZero, lockRule, unlockRule, waitRule, signalRule, barrierRule, startRule, exitRule, ruleOf}
+use Rattle.protocol.specs.Rounds.{member, committed, keeps, givesAtZero, lockRule, unlockRule, waitRule, signalRule, broadcastRule, barrierRule, startRule, exitRule, ruleOf}
 use Rattle.protocol.specs.Steps.{Fate}
 use Rattle.protocol.specs.Turns.{noneLeft}
 use Rattle.protocol.proofs.Bools.{or-false, or-fails}
@@ -24,7 +22,7 @@ use Rattle.rules.specs.declared.ruling.Uncommitted.{Uncommitted}
 use Rattle.rules.specs.declared.ruling.Goes.{Goes}
 use Rattle.rules.specs.declared.ruling.Ruling.{Ruling}
 use Rattle.rules.specs.Codes.{fateCode, conditionCode, barrierCode, uncommittedOf, goesOf, syncOf}
-use Rattle.rules.specs.Rules.{found, sleepersAt, calledBy, Coded, AtZero, Commits, Alone, Coherent, Means, Starting, Started, Ruled}
+use Rattle.rules.specs.Rules.{found, sleepersAt, calledBy, Coded, AtZero, Commits, Alone, Coherent, Means, Starting, Started, RuledBy, Ruled}
 use Rattle.rules.proofs.Codes.{code-asleep}
 
 -- a ruling that wakes nobody
@@ -107,6 +105,27 @@ start-coherent {target} {held} number {waiting} {fates} {r} s one w j e h y =
     other : (v : ℕ) → member v (listOf waiting) ≡ true → eqb v target ≡ false
     other v m = ne-eqb v target (λ q. true≢false (sym (eq-eqb (getD fates v 0) codeAsleep (ap (λ (k : ℕ). getD fates k 0) q ∙ y)) ∙ s .awake v m))
 
+-- the op that is left for a signal
+from-signal : (op : ℕ) → opLock ≤ op → (op ≡ opLock → ⊥) → (op ≡ opUnlock → ⊥) → (op ≡ opWait → ⊥) → opSignal ≤ op
+from-signal op least l u w = omega arith
+
+to-broadcast : (op : ℕ) → op ≤ opStart → (op ≡ opBarrier → ⊥) → (op ≡ opExit → ⊥) → (op ≡ opStart → ⊥) → op ≤ opBroadcast
+to-broadcast op most b e s = omega arith
+
+pub signal-left : (op : ℕ) → opLock ≤ op → op ≤ opStart → (op ≡ opBroadcast → ⊥) → (op ≡ opLock → ⊥) → (op ≡ opUnlock → ⊥) → (op ≡ opWait → ⊥)
+    → (op ≡ opBarrier → ⊥) → (op ≡ opExit → ⊥) → (op ≡ opStart → ⊥) → op ≡ opSignal
+signal-left op least most other l u w b e s = only (from-signal op least l u w) (to-broadcast op most b e s) other
+  where
+    only : {op : ℕ} → opSignal ≤ op → op ≤ opBroadcast → (op ≡ opBroadcast → ⊥) → op ≡ opSignal
+    only low high other = omega arith
+
+-- a broadcast's ruling, which no ruling of the code stands for
+pub by-broadcast : {op : ℕ} → op ≡ opBroadcast → (number held : ℕ) (sizes : List ℕ) (waiting : Queue) (fates : List ℕ)
+    → RuledBy op number held sizes waiting fates (broadcastRule (found fates (listOf waiting) (conditionCode number)) held)
+unfolding syncOf ruleOf
+by-broadcast e number held sizes waiting fates plan queue fate met at fit named =
+    rw e (ap (λ (ws : List ℕ). broadcastRule ws held) (met (omega (arith, e)) (omega (arith, e))))
+
 -- the rule by its op
 module _ {op number held : ℕ} {sizes : List ℕ} {waiting : Queue} {fates : List ℕ} {r : Ruling} where
   pub by-lock : op ≡ 32 → Means held number (calledBy op number fates) waiting fates r (lockRule held) → Ruled op number held sizes waiting fates r
@@ -121,16 +140,13 @@ module _ {op number held : ℕ} {sizes : List ℕ} {waiting : Queue} {fates : Li
   unfolding syncOf ruleOf
   by-wait e m = record { same = λ plan queue fate met at fit named. rw e (m .same); sound = m .sound }
 
-  pub by-signal : 35 ≤ op → op ≤ 36
+  pub by-signal : op ≡ opSignal
       → Means held number (calledBy op number fates) waiting fates r (signalRule (found fates (listOf waiting) (conditionCode number)) held)
       → Ruled op number held sizes waiting fates r
   unfolding syncOf ruleOf
-  by-signal low high m =
+  by-signal e m =
       record {
-        same = λ plan queue fate met at fit named.
-            ⊎-elim (λ e. rw (← e, ← met low high) (m .same))
-            (λ h. let e : op ≡ 36 = omega arith in rw (e, ← met low high) (m .same))
-            (eq-or-lt-of-le low);
+        same = λ plan queue fate met at fit named. rw (e, ← met (omega (arith, e)) (omega (arith, e))) (m .same);
         sound = m .sound;
       }
 

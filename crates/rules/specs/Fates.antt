@@ -6,12 +6,11 @@ use mathlib.Core.List.{List, _++_}
 use lib.Dec.{eqb}
 use lib.ListN.{length, getD}
 use Rattle.protocol.specs.Format.{workersLimit}
-use Rattle.protocol.specs.Rounds.{member}
+use Rattle.protocol.specs.Rounds as rounds
+use Rattle.protocol.specs.Rounds.{member, fateAfter}
 use Rattle.queue.specs.declared.Queue.{Queue}
 use Rattle.queue.specs.List.{listOf, Good, Below}
-use Rattle.rules.specs.declared.ruling.Ruling.{Ruling}
-use Rattle.rules.specs.Codes.{codeAfter}
-use Rattle.rules.specs.Rules.{wokenOf, joinedOf}
+use Rattle.rules.specs.Codes.{fateCode}
 
 pub record Freeing (wakes joins starts : Bool) (queued : Queue) : Type 0 where
   pub good : Good queued
@@ -21,9 +20,9 @@ pub record Freeing (wakes joins starts : Bool) (queued : Queue) : Type 0 where
   pub one : starts ≡ true → (wakes ≡ false) × (length (listOf queued) ≡ 1)
 
 -- the holder has its new fate, those whom the step moves are going, and the others stay as they were
-pub record FatesSettled (before : List ℕ) (r : Ruling) (h : ℕ) (after : List ℕ) : Type 0 where
+pub record FatesSettled (before : List ℕ) (is : rounds.Ruling) (h : ℕ) (after : List ℕ) : Type 0 where
   pub size : length after ≡ workersLimit
   pub code :
       (w : ℕ)
       → getD after w 0
-      ≡ cond (eqb w h) (codeAfter (r .goes)) (cond (member w (wokenOf (r .wakes) (listOf (r .queued)) ++ joinedOf (r .joins || r .starts) (listOf (r .queued)))) 0 (getD before w 0))
+      ≡ cond (eqb w h) (fateCode (fateAfter (is .goes))) (cond (member w (is .wakes ++ is .joins)) 0 (getD before w 0))

@@ -109,12 +109,15 @@ pub record Asking (op number held : ℕ) (waiting : Queue) (fates : List ℕ) : 
   pub awake : (w : ℕ) → member w (listOf waiting) ≡ true → eqb (getD fates w 0) codeAsleep ≡ false
 
 -- the rule of the definitions, in every plan with these sizes and every state with these queues and fates
+abbrev pub RuledBy : ℕ → ℕ → ℕ → List ℕ → Queue → List ℕ → rounds.Ruling → Type 0
+RuledBy op number held sizes waiting fates is =
+    (plan : Plan) (queue : QueueName → List ℕ) (fate : ℕ → Fate)
+    → (opSignal ≤ op → op ≤ opBroadcast → found fates (listOf waiting) (conditionCode number) ≡ queue (onCondition number))
+    → (op ≡ opBarrier → found fates (listOf waiting) (barrierCode number) ≡ queue (atBarrier number))
+    → (op ≡ opBarrier → getD (plan .sizes) number 0 ≡ getD sizes number 0)
+    → (op ≡ opStart → getD fates number 0 ≡ fateCode (fate number))
+    → is ≡ ruleOf plan queue fate held (syncOf op number)
+
 pub record Ruled (op number held : ℕ) (sizes : List ℕ) (waiting : Queue) (fates : List ℕ) (r : Ruling) : Type 0 where
-  pub same :
-      (plan : Plan) (queue : QueueName → List ℕ) (fate : ℕ → Fate)
-      → (opSignal ≤ op → op ≤ opBroadcast → found fates (listOf waiting) (conditionCode number) ≡ queue (onCondition number))
-      → (op ≡ opBarrier → found fates (listOf waiting) (barrierCode number) ≡ queue (atBarrier number))
-      → (op ≡ opBarrier → getD (plan .sizes) number 0 ≡ getD sizes number 0)
-      → (op ≡ opStart → getD fates number 0 ≡ fateCode (fate number))
-      → rulingOf r ≡ ruleOf plan queue fate held (syncOf op number)
+  pub same : RuledBy op number held sizes waiting fates (rulingOf r)
   pub sound : Coherent held number (calledBy op number fates) waiting fates r

@@ -12,7 +12,7 @@ ghost use lib.ListN.{length};
 ghost use Rattle.protocol.specs.Format.{workersLimit};
 ghost use Rattle.queue.specs.List.{listOf, Good, Below, setAll};
 ghost use Rattle.rules.specs.Codes.{codeAfter};
-ghost use Rattle.rules.specs.Rules.{wokenOf, joinedOf};
+ghost use Rattle.rules.specs.Rules.{Coded, rulingOf, wokenOf, joinedOf};
 ghost use Rattle.rules.specs.Fates.{Freeing, FatesSettled};
 
 // The code of the holder's fate.
@@ -66,8 +66,8 @@ fn free_moved(
 
 // Those whom the step moves wait or sleep no more, and the holder h has its new fate.
 pub fn settle_fates(fates: &mut [u64; WORKERS_LIMIT], r: Ruling, h: usize)
-    requires { ⌜ (length (now fates) ≡ workersLimit) × (h < workersLimit) × Freeing (r .wakes) (r .joins) (r .starts) (r .queued) ⌝ }
-    ensures { λ u. ⌜ FatesSettled (now (fates .entry)) r h (now (fates .exit)) ⌝ }
+    requires { ⌜ (length (now fates) ≡ workersLimit) × (h < workersLimit) × Coded (r .goes) × Freeing (r .wakes) (r .joins) (r .starts) (r .queued) ⌝ }
+    ensures { λ u. ⌜ FatesSettled (now (fates .entry)) (rulingOf r) h (now (fates .exit)) ⌝ }
 {
     let queued = r.queued;
     let goes = r.goes;

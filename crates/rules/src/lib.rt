@@ -1,4 +1,6 @@
 // The rules of the synchronising steps as data, and what they do to the lists and the fates.
+pub mod broadcast;
+pub mod decision;
 pub mod fates;
 pub mod lists;
 pub mod ruling;

@@ -8,7 +8,9 @@ use format::limits::BARRIER_COUNT;
 use format::limits::WORKERS_LIMIT;
 use format::ops;
 use queue::Queue;
+ghost use mathlib.Core.Path.{_≡_};
 ghost use mathlib.Core.List.{List};
+ghost use Rattle.protocol.specs.Ops.{opBroadcast};
 ghost use Prim.Native.Nat.{ℕ, _≤_};
 ghost use Rattle.protocol.specs.Format.{workersLimit, stepsLimit, lockLimit};
 ghost use Rattle.protocol.specs.Rounds.{failure, lockRule, unlockRule, waitRule, signalRule, barrierRule, exitRule};
@@ -149,7 +151,6 @@ fn wait(condition: u64, count: u64) -> Ruling
     }
 }
 
-// Signal and broadcast.
 fn signal(condition: u64, held: u64, waiting: Queue, fates: &[u64; WORKERS_LIMIT]) -> Ruling
     requires { ⌜ (condition ≤ lockLimit) × Good waiting × Below workersLimit (listOf waiting) ⌝ }
     ensures { λ r. ⌜ ((number called : ℕ) → Means held number called waiting (now (fates .entry)) r (signalRule (found (now (fates .entry)) (listOf waiting) (conditionCode condition)) held)) ⌝ }
@@ -275,7 +276,7 @@ fn start(target: usize, held: u64, waiting: Queue, fates: &[u64; WORKERS_LIMIT])
     }
 }
 
-// The rule of the step with this op and number, where these wait, each where its fate's code in `on` says.
+// The rule of the step with this op and number, no broadcast, where these wait, each where its fate's code says.
 pub fn rule(
     op: u8,
     number: u16,
@@ -284,7 +285,7 @@ pub fn rule(
     waiting: Queue,
     fates: &[u64; WORKERS_LIMIT],
 ) -> Ruling
-    requires { ⌜ Asking op number held waiting (now fates) ⌝ }
+    requires { ⌜ Asking op number held waiting (now fates) × (op ≡ opBroadcast → ⊥) ⌝ }
     ensures { λ r. ⌜ Ruled op number held (now (sizes .entry)) waiting (now (fates .entry)) r ⌝ }
 {
     if op == ops::LOCK {

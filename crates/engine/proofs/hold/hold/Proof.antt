@@ -15,7 +15,7 @@ abbrev from-decide : tie.After-decide → tie.Start
 from-decide c = c .before .before .before .before .before .before .before .before
 
 abbrev from-bytes : tie.After-settle-bytes → tie.After-decide
-from-bytes c = c .before .before .before .before .before .before .before
+from-bytes c = c .before .before .before .before
 
 abbrev from-step : tie.After-synchronise → tie.After-settle-bytes
 from-step c = c .before .before .before .before .before
@@ -42,16 +42,9 @@ element-copy-out-count c = omega (arith, named (c .before .before .before))
 decide-requires : tie.Need-decide-requires
 decide-requires c κs = deciding (c .before .before .before .before .before .before .before .pre .1)
 
-settle-fates-requires : tie.Need-settle-fates-requires
-settle-fates-requires c κs =
-    let d = c .before .before .before in
-    let p = from-decide d .pre .1 .here in
-    let s = d .decide .ensures .ruled .sound in
-    (p .refines .entries .fates, small p, record { good = s .good; below = s .below; some = s .some; apart = s .apart; one = λ y. (s .alone y .notWoken, s .alone y .one) })
-
 settle-bytes-requires : tie.Need-settle-bytes-requires
 settle-bytes-requires c κs =
-    let p = from-decide (c .before .before .before .before .before .before) .pre .1 .here in
+    let p = from-decide (c .before .before .before) .pre .1 .here in
     (p .refines .bytes .sizes, small p)
 
 mul-held : tie.Need-mul-held
@@ -60,11 +53,11 @@ mul-held c = omega (arith, named-late (c .before .before))
 element-copy-out-held : tie.Need-element-copy-out-held
 element-copy-out-held c = omega (arith, named-late (c .before .before))
 
-mul-t44 : tie.Need-mul-t44
-mul-t44 c = omega (arith, named-late (c .before .before .before))
+mul-t42 : tie.Need-mul-t42
+mul-t42 c = omega (arith, named-late (c .before .before .before))
 
-element-copy-out-t34 : tie.Need-element-copy-out-t34
-element-copy-out-t34 c = omega (arith, named-late (c .before .before .before))
+element-copy-out-t33 : tie.Need-element-copy-out-t33
+element-copy-out-t33 c = omega (arith, named-late (c .before .before .before))
 
 synchronise-requires : tie.Need-synchronise-requires
 synchronise-requires c κs = place-small (from-decide (from-bytes (c .before .before .before .before)) .pre .1 .here)
@@ -76,14 +69,14 @@ record-step-requires c κs =
     let q = deciding (p .1) in
     let k = records-fit (p .1) (d .decide .ensures) (p .0) in
     let z = p .1 .here .refines .log .size in
-    (q .holder, q .operand, rounds-fit (p .1), omega arith)
+    (q .holding .holder, q .asked .operand, rounds-fit (p .1), omega arith)
 
 turn-over-requires : tie.Need-turn-over-requires
 turn-over-requires c κs =
     let d = from-bytes (from-step (from-record (c .before .before .before .before .before .before))) in
     let p = from-decide d .pre in
     let x = d .decide .ensures in
-    (small (p .1 .here), rounds-fit (p .1), list-below (p .1) x (p .0), x .moved .next .good, next-below (p .1) x (p .0))
+    (small (p .1 .here), rounds-fit (p .1), list-below (p .1) x (p .0), x .carried .moved .next .good, next-below (p .1) x (p .0))
 
 mul-places : tie.Need-mul-places
 mul-places c = omega (arith, named-late (from-step (from-record (from-turn (c .before .before)))))
@@ -97,8 +90,8 @@ mul-held-2 c = omega (arith, named-late (from-step (from-record (from-turn (c .b
 element-write-held : tie.Need-element-write-held
 element-write-held c = omega (arith, named-late (from-step (from-record (from-turn (c .before .before)))))
 
-add-t34 : tie.Need-add-t34
-add-t34 c =
+add-t33 : tie.Need-add-t33
+add-t33 c =
     let d = from-bytes (from-step (from-record (from-turn (c .before .before .before)))) in
     omega (arith, moves-small (from-decide d .pre .1 .here))
 
@@ -119,7 +112,6 @@ returns c =
     λ h.
     shown h (decided .decide .ensures) (p .0)
     (ap (λ (q : Synchronised). q .worker) (stepped .synchronise .ensures))
-    (bytes .before .before .before .settle-fates .ensures)
     (bytes .settle-bytes .ensures)
     (ap (λ (q : Synchronised). q .outcome) (stepped .synchronise .ensures))
     (recorded .record-step .ensures .0)
@@ -134,12 +126,11 @@ hold-spec =
     mul-count
     element-copy-out-count
     decide-requires
-    settle-fates-requires
     settle-bytes-requires
     mul-held
     element-copy-out-held
-    mul-t44
-    element-copy-out-t34
+    mul-t42
+    element-copy-out-t33
     synchronise-requires
     record-step-requires
     turn-over-requires
@@ -147,7 +138,7 @@ hold-spec =
     element-write-places
     mul-held-2
     element-write-held
-    add-t34
+    add-t33
     same-length
     same-length-2
     returns)

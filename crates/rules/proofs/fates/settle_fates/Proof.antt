@@ -1,6 +1,8 @@
 -- `settle_fates` meets its contract. Assumes nothing.
 use borrow.Author.Needs.{needs}
+use mathlib.Core.Path.{sym, _∙_}
 use denote.Ref.{now}
+use Rattle.rules.specs.Rules.{rulingOf}
 use Rattle.rules.proofs.Freed.{settled}
 use Rattle.rules.proofs.fates.settle_fates.Statement.{statement}
 use Rattle.rules.proofs.fates.settle_fates.Tie as tie
@@ -20,7 +22,7 @@ element-write-fates c = search needs
 returns : tie.Need-returns
 returns c = let s = c .before .before .before .before in
     let a = s .args in
-    settled (now (a .fates)) (a .r) (a .h) _ _ (s .pre .0) (s .pre .1) (c .free-moved .ensures) (c .before .before .code-after .ensures)
+    settled (now (a .fates)) (rulingOf (a .r)) (a .h) _ _ (s .pre .0) (s .pre .1) (c .free-moved .ensures) (c .before .before .code-after .ensures ∙ sym (s .pre .2))
 
 pub settle-fates-spec : {M : Type 1} → statement M
 settle-fates-spec =

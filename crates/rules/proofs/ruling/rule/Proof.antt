@@ -1,7 +1,7 @@
 -- `rule` meets its contract. Assumes nothing.
 use borrow.Author.Needs.{needs}
 use native.Mathlib.Omega.{arith}
-use Rattle.rules.proofs.Rulings.{by-lock, by-unlock, by-wait, by-signal, by-barrier, by-exit, by-start}
+use Rattle.rules.proofs.Rulings.{by-lock, by-unlock, by-wait, by-signal, by-barrier, by-exit, by-start, signal-left}
 use Rattle.rules.proofs.ruling.rule.Statement.{statement}
 use Rattle.rules.proofs.ruling.rule.Tie as tie
 
@@ -24,7 +24,7 @@ returns-3 : tie.Need-returns-3
 returns-3 c = by-wait (c .before .if3 .taken) (c .wait .ensures _ _ _ _)
 
 element-copy-out-barrier : tie.Need-element-copy-out-barrier
-element-copy-out-barrier c = c .before .before .before .before .pre .barrier (c .if4 .taken)
+element-copy-out-barrier c = c .before .before .before .before .pre .0 .barrier (c .if4 .taken)
 
 barrier-requires : tie.Need-barrier-requires
 barrier-requires c κs = search needs
@@ -40,7 +40,7 @@ returns-5 c = by-exit (omega (arith, c .before .if5 .taken)) (c .exit .ensures _
 
 start-requires : tie.Need-start-requires
 start-requires c κs =
-    let p = c .before .before .before .before .before .before .pre in
+    let p = c .before .before .before .before .before .before .pre .0 in
     record { named = p .target (omega (arith, c .if6 .taken)); awake = p .awake }
 
 returns-6 : tie.Need-returns-6
@@ -51,8 +51,12 @@ signal-requires c κs = search needs
 
 returns-7 : tie.Need-returns-7
 returns-7 c =
-    let p = c .before .before .before .before .before .before .before .pre in
-    by-signal (omega (arith, p .least)) (omega (arith, p .most)) (c .signal .ensures _ _)
+    let e4 = c .before .before .before in
+    let s = e4 .before .before .before .before in
+    by-signal
+    (signal-left (s .args .op) (s .pre .0 .least) (s .pre .0 .most) (s .pre .1) (e4 .before .before .before .if1 .left) (e4 .before .before .if2 .left)
+    (e4 .before .if3 .left) (e4 .if4 .left) (c .before .before .if5 .left) (c .before .if6 .left))
+    (c .signal .ensures _ _)
 
 pub rule-spec : {M : Type 1} → statement M
 rule-spec =
