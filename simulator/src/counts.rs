@@ -4,10 +4,12 @@
 mod board;
 mod limits;
 mod meeting;
+mod waking;
 
 pub use board::{Board, Row};
 pub use limits::{Limit, Met, ROWS};
 pub use meeting::{Found, Hold, Joining, Meetings, Move, Sight, Stand};
+pub use waking::{Waking, Woke};
 
 use crate::check::Step;
 

@@ -36,6 +36,9 @@ pub const OP_PLAN: u8 = 0;
 pub const OP_BARRIER_SIZE: u8 = 1;
 /// Op of a sleep record.
 pub const OP_SLEEP: u8 = 2;
+/// Op of a signal and of a broadcast.
+pub const OP_SIGNAL: u8 = 35;
+pub const OP_BROADCAST: u8 = 36;
 /// Op of an exit, which the end of the steps acts as.
 pub const OP_EXIT: u8 = 38;
 /// Op of a start.

@@ -257,7 +257,8 @@ impl<'a> Rounds<'a> {
                 self.conditions[number].push_back(who);
                 (255, Then::Away(3))
             }
-            35 | 36 => (self.wake(number), run_on_if(count > 0)),
+            35 => (self.wake(number), run_on_if(count > 0)),
+            36 => (self.wake_all(number), run_on_if(count > 0)),
             37 => self.meet(who, number),
             39 => (self.rouse(number), Then::RunOn),
             _ => (255, Then::Away(1)),
@@ -279,6 +280,18 @@ impl<'a> Rounds<'a> {
             }
             None => 255,
         }
+    }
+
+    /// Empties a condition's queue from its tail, so that its first waiter
+    /// comes to stand in front of all. Says how many there were.
+    fn wake_all(&mut self, condition: usize) -> u8 {
+        let mut woken = 0;
+        while let Some(waiter) = self.conditions[condition].pop_back() {
+            self.seats[waiter].fate = 0;
+            self.list.push_front(waiter);
+            woken += 1;
+        }
+        woken
     }
 
     /// A start. Whoever sleeps stands in the next list at once, in front of

@@ -11,7 +11,9 @@
 //! * A failure logs the op and the number as met; the end of the steps is met
 //!   as op 38 with number 0.
 //! * A holder with a count above 0 that wakes two workers one after the other
-//!   puts the second directly behind itself, so in front of the first.
+//!   puts the second directly behind itself, so in front of the first. Those
+//!   whom a broadcast wakes go, as they waited, in front of whomever the same
+//!   holder woke before.
 //! * The caller that fills a barrier gives up the token.
 //! * A load of two bytes looks for a copy for each of them, since they can
 //!   lie in different pages.
@@ -21,8 +23,11 @@
 //!   started somebody runs on, and a lock then commits again.
 
 use crate::check::{Plan, Step};
-use crate::counts::{Counts, Found, Hold, Joining, Move, Sight, Stand};
-use crate::format::{LOG_MARK, LOG_RECORD_LENGTH, MOST_WORKERS, OP_EXIT, OP_START, REPORT_LENGTH};
+use crate::counts::{Counts, Found, Hold, Joining, Move, Sight, Stand, Waking};
+use crate::format::{
+    LOG_MARK, LOG_RECORD_LENGTH, MOST_WORKERS, OP_BROADCAST, OP_EXIT, OP_SIGNAL, OP_START,
+    REPORT_LENGTH,
+};
 use crate::outcome::Outcome;
 
 const PAGE_SIZE: usize = 256;
@@ -205,10 +210,11 @@ pub struct Machine<'a> {
     turns: usize,
     last_moved: usize,
     first: Vec<usize>,
-    /// What the holder has started, and how the last one came into the next
-    /// list; only counts need them.
+    /// What the holder has done, how the last one came into the next list,
+    /// and how many have come into this round's list; only counts need them.
     hold: Hold,
     joined: Option<Joining>,
+    came: usize,
 }
 
 impl<'a> Machine<'a> {
@@ -219,10 +225,12 @@ impl<'a> Machine<'a> {
             workers[usize::from(sleeper)] = Worker::new(Fate::Asleep);
         }
         let awake = |worker: &usize| workers[*worker].fate == Fate::Going;
+        let list: Vec<usize> = (0..plan.workers()).filter(awake).collect();
         Machine {
             plan,
             shared: memory.to_vec(),
-            list: (0..plan.workers()).filter(awake).collect(),
+            came: list.len(),
+            list,
             workers,
             next: Vec::new(),
             parked: Vec::new(),
@@ -408,12 +416,8 @@ impl<'a> Machine<'a> {
             32 => self.lock(worker),
             33 => self.unlock(worker),
             34 => self.wait(worker, step.number),
-            // A broadcast is as a signal: it wakes the first waiter alone.
-            35 | 36 => {
-                let count = self.workers[worker].count;
-                self.counts.limits.signals(step.op, count);
-                self.signal(worker, step.number)
-            }
+            OP_SIGNAL => self.signal(worker, step.number),
+            OP_BROADCAST => self.broadcast(worker, step.number),
             37 => self.barrier(worker, step.number),
             OP_START => self.start(worker, usize::from(step.number)),
             _ => self.exit(worker),
@@ -461,18 +465,53 @@ impl<'a> Machine<'a> {
         let spot = Spot::Condition(condition);
         let first = self.parked.iter().position(|&(at, _)| at == spot);
         let woken = first.map(|position| self.parked.remove(position).1);
-        if let Some(waiter) = woken {
+        let woken: Vec<usize> = woken.into_iter().collect();
+        self.put_behind_holder(worker, OP_SIGNAL, &woken);
+        let outcome = woken.first().map_or(NOBODY, |&waiter| waiter as u8);
+        (outcome, self.token_behind_waking(worker))
+    }
+
+    fn broadcast(&mut self, worker: usize, condition: u16) -> (u8, Token) {
+        self.commit(worker);
+        let spot = Spot::Condition(condition);
+        let (waiters, kept): (Vec<_>, Vec<_>) = self.parked.iter().partition(|(at, _)| *at == spot);
+        self.parked = kept;
+        let woken: Vec<usize> = waiters.into_iter().map(|(_, waiter)| waiter).collect();
+        self.put_behind_holder(worker, OP_BROADCAST, &woken);
+        (woken.len() as u8, self.token_behind_waking(worker))
+    }
+
+    fn token_behind_waking(&self, worker: usize) -> Token {
+        match self.workers[worker].count {
+            0 => Token::GiveUp,
+            _ => Token::Keep,
+        }
+    }
+
+    /// Those that the holder wakes go directly behind it, in this order.
+    fn put_behind_holder(&mut self, holder: usize, op: u8, woken: &[usize]) {
+        self.count_waking(holder, op, woken.len());
+        for (place, &waiter) in woken.iter().enumerate() {
             let kept = self.workers[waiter].count;
             self.counts.limits.woken(kept, self.list.len());
+            self.came += 1;
+            self.counts.limits.came(self.came, self.workers.len());
             self.workers[waiter].fate = Fate::Going;
-            self.list.insert(1, waiter);
+            self.list.insert(1 + place, waiter);
         }
-        let token = if self.workers[worker].count == 0 {
-            Token::GiveUp
-        } else {
-            Token::Keep
+    }
+
+    /// The holder wakes so many, which no longer wait.
+    fn count_waking(&mut self, holder: usize, op: u8, woken: usize) {
+        let on_condition = |(at, _): &&(Spot, usize)| matches!(at, Spot::Condition(_));
+        let waking = Waking {
+            op,
+            count: self.workers[holder].count,
+            woken,
+            behind: self.list.len() - 1,
+            left: self.parked.iter().filter(on_condition).count(),
         };
-        (woken.map_or(NOBODY, |waiter| waiter as u8), token)
+        self.counts.limits.wakes(waking, &mut self.hold);
     }
 
     fn barrier(&mut self, worker: usize, barrier: u16) -> (u8, Token) {
@@ -550,6 +589,7 @@ impl<'a> Machine<'a> {
         self.rounds += 1;
         self.joined = None;
         self.list = std::mem::take(&mut self.next);
+        self.came = self.list.len();
         for &each in &self.list {
             self.workers[each].arrived = false;
         }

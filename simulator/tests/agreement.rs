@@ -101,7 +101,8 @@ fn depth_and_queue(draft: &Draft) -> (u8, usize) {
     for record in log.chunks_exact(8) {
         match (record[5], record[7]) {
             (34, 255) | (37, 0) => queued += 1,
-            (35 | 36, 0..8) => queued -= 1,
+            (35, 0..8) => queued -= 1,
+            (36, woken) => queued -= usize::from(woken),
             (37, size @ 1..=8) => queued -= usize::from(size) - 1,
             _ => {}
         }
@@ -121,6 +122,24 @@ fn far_plans() {
         (depth, queue) = (depth.max(far.0), queue.max(far.1));
     }
     assert!(depth == 128 && queue >= 7, "{depth}, {queue}");
+}
+
+/// Broadcasts reach nobody, everybody, and all numbers in between.
+#[test]
+fn broadcast_plans() {
+    let mut rng = Rng::new(26);
+    let mut woken = [0; 8];
+    for _ in 0..250 {
+        let draft = plan(&mut rng, PlanKind::Broadcasts);
+        compare(&mut rng, &draft, &TurnKind::CHEAP);
+        let read = check(&draft.file()).expect("an accepted plan");
+        for record in play_rounds(&read, &[0; 2_048]).log.chunks_exact(8) {
+            if record[5] == 36 {
+                woken[usize::from(record[7])] += 1;
+            }
+        }
+    }
+    assert!(woken.iter().all(|&count| count > 20), "{woken:?}");
 }
 
 #[test]
@@ -164,8 +183,14 @@ fn every_outcome_is_met() {
         (34, 255),
         (35, 0),
         (35, 255),
+        (36, 0),
         (36, 1),
-        (36, 255),
+        (36, 2),
+        (36, 3),
+        (36, 4),
+        (36, 5),
+        (36, 6),
+        (36, 7),
         (37, 0),
         (37, 1),
         (37, 2),

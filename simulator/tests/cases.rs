@@ -164,13 +164,14 @@ fn second_signal_goes_before_the_first_woken() {
 }
 
 #[test]
-fn broadcast_wakes_one() {
+fn broadcast_wakes_everybody() {
     let waits: Row = &[(32, 0, 0), (34, 0, 0), (33, 0, 0)];
     let draft = Draft::from_rows(&[], &[waits, waits, &[(36, 0, 0)]]);
     let outcome = end_of(&draft, &[]);
-    assert_eq!(outcome.report, report([2, 3], [13, 2, 8], &[1, 3, 1]));
-    let text = "1 0 32 0 1\n1 0 34 0 255\n1 1 32 0 1\n1 1 34 0 255\n1 2 36 0 0\n\
-                1 0 33 0 0\n2 2 38 0 255\n2 0 38 0 255\nstuck 13\n";
+    assert_eq!(outcome.report, report([1, 3], [16, 2, 10], &[1, 1, 1]));
+    let text = "1 0 32 0 1\n1 0 34 0 255\n1 1 32 0 1\n1 1 34 0 255\n1 2 36 0 2\n\
+                1 0 33 0 0\n1 1 33 0 0\n2 2 38 0 255\n2 0 38 0 255\n2 1 38 0 255\n\
+                finished 16\n";
     assert_eq!(listing(&draft.file()), text);
 }
 

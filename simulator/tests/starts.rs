@@ -337,7 +337,7 @@ fn a_waiter_that_a_started_worker_wakes() {
     let plan = draft(&[starts, &[(36, 0, 4)]], &[1]);
     let outcome = end_of(&plan, &[]);
     assert_eq!(outcome.report, report([1, 2], [11, 3, 7], &[1, 1]));
-    let text = "1 0 39 1 1\n1 0 32 0 1\n1 0 34 4 255\n2 1 36 4 0\n2 0 33 0 0\n\
+    let text = "1 0 39 1 1\n1 0 32 0 1\n1 0 34 4 255\n2 1 36 4 1\n2 0 33 0 0\n\
                 3 1 38 0 255\n3 0 38 0 255\nfinished 11\n";
     assert_eq!(listing(&plan.file()), text);
 }

@@ -81,12 +81,13 @@ fn memory_sum(memory: &[u8]) -> u64 {
     bytes.zip(1..).map(|(byte, place)| place * byte).sum()
 }
 
-/// The paper's cases, those of its first request, the borders, runs of every
-/// kind, refused files.
+/// The paper's cases, those of its first two requests, the borders, runs of
+/// every kind, refused files.
 fn files(rng: &mut Rng) -> Vec<Vec<u8>> {
     let mut files = Vec::new();
     files.extend(cases());
     files.extend(starts());
+    files.extend(broadcasts());
     files.extend(borders(rng));
     for kind in PlanKind::SMALL {
         files.extend((0..11).map(|_| plan(rng, kind).file()));
@@ -207,6 +208,90 @@ fn starts_among_many() -> [Vec<u8>; 2] {
     let found = sleeping(&found, &[7]);
     let joined = sleeping(&joined, &[4, 5]);
     [found.file(), joined.file()]
+}
+
+const LOCK: (u8, u8, u16) = (32, 0, 0);
+const UNLOCK: (u8, u8, u16) = (33, 0, 0);
+const WAIT: (u8, u8, u16) = (34, 0, 0);
+const WAIT_ON_1: (u8, u8, u16) = (34, 0, 1);
+const SIGNAL: (u8, u8, u16) = (35, 0, 0);
+const SIGNAL_1: (u8, u8, u16) = (35, 0, 1);
+const ALL: (u8, u8, u16) = (36, 0, 0);
+const ALL_ON_1: (u8, u8, u16) = (36, 0, 1);
+
+/// A wait on condition 0, and on condition 1, inside a lock.
+const WAITS: Row = &[LOCK, WAIT, UNLOCK];
+const OTHER: Row = &[LOCK, WAIT_ON_1, UNLOCK];
+
+/// Plans of the second request. First each broadcast inside a lock and without
+/// one: beside a waiter on another condition, with seven waiters, with nobody
+/// waiting yet or nobody on this condition.
+fn broadcasts() -> Vec<Vec<u8>> {
+    let mut plans = Vec::new();
+    for own in [&[ALL][..], &[LOCK, ALL, UNLOCK]] {
+        plans.push(vec![WAITS, OTHER, WAITS, WAITS, own]);
+        plans.push([&[WAITS; 7][..], &[own]].concat());
+        plans.push(vec![own, WAITS, &[ALL]]);
+        plans.push(vec![OTHER, own]);
+    }
+    plans.extend(of_one_holder());
+    plans.extend(back_and_forth());
+    let files = plans.iter().map(|rows| Draft::from_rows(&[], rows).file());
+    files.chain(broadcasts_on_memory()).collect()
+}
+
+/// A signal and a broadcast of one holder, either first, and two broadcasts;
+/// then waiters that came in another order than their own.
+fn of_one_holder() -> [Vec<Row<'static>>; 4] {
+    let section: Row = &[LOCK, UNLOCK];
+    let signal_first: Row = &[LOCK, SIGNAL, ALL, UNLOCK];
+    let signal_last: Row = &[LOCK, ALL, SIGNAL_1, UNLOCK];
+    let both: Row = &[LOCK, ALL, ALL_ON_1, ALL, UNLOCK];
+    let late: Row = &[SIGNAL_1, LOCK, WAIT, UNLOCK];
+    [
+        vec![WAITS, WAITS, WAITS, signal_first, section],
+        vec![WAITS, WAITS, OTHER, signal_last],
+        vec![WAITS, OTHER, WAITS, OTHER, both],
+        vec![late, WAITS, &[SIGNAL_1, SIGNAL_1, ALL]],
+    ]
+}
+
+/// Workers that wake each other by turns, so that more come into the list of
+/// round 1 than the plan has.
+fn back_and_forth() -> [Vec<Row<'static>>; 2] {
+    let signals = vec![
+        &[LOCK, WAIT, SIGNAL_1, WAIT, SIGNAL_1, UNLOCK][..],
+        &[LOCK, SIGNAL, WAIT_ON_1, SIGNAL, WAIT_ON_1, UNLOCK],
+    ];
+    let broadcasts = vec![
+        &[LOCK, WAIT, WAIT, ALL, UNLOCK][..],
+        &[LOCK, WAIT, ALL, WAIT, UNLOCK],
+        &[LOCK, ALL, WAIT, WAIT, UNLOCK],
+    ];
+    [signals, broadcasts]
+}
+
+/// The woken show in memory in which order they came, and what the holder had
+/// committed; then counts that are kept, and a start in the same hold.
+fn broadcasts_on_memory() -> [Vec<u8>; 4] {
+    let doubles = [
+        &[LOCK, WAIT, (17, 0, 0), (19, 0, 0), (18, 0, 0)],
+        &[UNLOCK][..],
+    ]
+    .concat();
+    let load: Row = &[LOCK, WAIT, (17, 0, 0), (16, 1, 1)];
+    let adds = [load, &[(19, 0, 1), (18, 0, 0), UNLOCK]].concat();
+    let free = [ONE, &[ALL], TWO].concat();
+    let locked = [&[LOCK], ONE, &[ALL], TWO, &[UNLOCK]].concat();
+    let twice: Row = &[LOCK, LOCK, WAIT, UNLOCK, UNLOCK];
+    let starts: Row = &[(39, 0, 4), ALL];
+    let plans: [(&[Row], &[u8]); 4] = [
+        (&[&doubles, &adds, &doubles, &free], &[]),
+        (&[&doubles, &adds, &doubles, &locked], &[]),
+        (&[twice, &[LOCK, WAIT], &[LOCK, WAIT, WAIT], &[ALL]], &[]),
+        (&[WAITS, &[(37, 0, 0)], WAITS, starts, TWO], &[4]),
+    ];
+    plans.map(|(rows, sleepers)| sleeping(rows, sleepers).file())
 }
 
 /// Case 11: what just passes and what just does not.
@@ -334,7 +419,7 @@ impl Seen {
 }
 
 /// A rule as a log record shows it: the op, whether the worker held a lock
-/// before, and the outcome, whoever was woken being 0.
+/// before, and the outcome, whoever a signal woke being 0.
 type Rule = (u8, bool, u8);
 
 fn rules(log: &[u8]) -> Vec<Rule> {
@@ -345,7 +430,7 @@ fn rules(log: &[u8]) -> Vec<Rule> {
         if op == 32 || op == 33 {
             held[worker] = outcome;
         }
-        let woke = (op == 35 || op == 36) && outcome < 8;
+        let woke = op == 35 && outcome < 8;
         (op, held_one, if woke { 0 } else { outcome })
     };
     log.chunks_exact(8).map(each).collect()
@@ -376,7 +461,7 @@ fn nothing_missing(files: &[Vec<u8>]) -> Result<(), String> {
 }
 
 /// What some plan must show.
-const WANTED: [Rule; 25] = [
+const WANTED: [Rule; 31] = [
     (32, false, 1),
     (32, true, 2),
     (33, true, 0),
@@ -390,8 +475,14 @@ const WANTED: [Rule; 25] = [
     (35, true, 255),
     (36, false, 0),
     (36, true, 0),
-    (36, false, 255),
-    (36, true, 255),
+    (36, false, 1),
+    (36, true, 1),
+    (36, false, 2),
+    (36, true, 2),
+    (36, false, 3),
+    (36, true, 3),
+    (36, false, 7),
+    (36, true, 7),
     (37, false, 0),
     (37, false, 1),
     (37, false, 2),

@@ -2,6 +2,7 @@
 //! not without the plan beside them.
 
 use crate::counts::board::Row;
+use crate::counts::waking::{above_all, beside, into, woken_before, CAME, INTO};
 use crate::counts::{PLAIN, SYNCHRONISING};
 
 /// A row of limits.
@@ -44,6 +45,12 @@ pub enum Limit {
     BehindStart,
     StoredBehindStart,
     Joined,
+    Broadcast,
+    BroadcastInto,
+    BroadcastBeside,
+    WokenBefore,
+    Came,
+    CameAboveAll,
 }
 
 /// A row and the place in it of a limit that was met.
@@ -63,7 +70,7 @@ const fn row(
     (limit, row)
 }
 
-const COUNT: usize = 37;
+const COUNT: usize = 43;
 
 /// Count of ops: 16 to 22 and 32 to 39.
 pub const OPS: usize = PLAIN.len() + SYNCHRONISING.len();
@@ -209,6 +216,42 @@ const TABLE: [(Limit, Row); COUNT] = [
         behind_start,
     ),
     row(Limit::Joined, "joins the next list behind one", 8, joined),
+    row(
+        Limit::Broadcast,
+        "broadcast by woken and count",
+        16,
+        broadcast,
+    ),
+    row(
+        Limit::BroadcastInto,
+        "broadcast by woken and workers behind the holder",
+        INTO,
+        into,
+    ),
+    row(
+        Limit::BroadcastBeside,
+        "broadcast beside other conditions",
+        13,
+        beside,
+    ),
+    row(
+        Limit::WokenBefore,
+        "woken in front of others that the holder woke",
+        9,
+        woken_before,
+    ),
+    row(
+        Limit::Came,
+        "workers come into one round's list",
+        CAME.len(),
+        |place| CAME[place].to_string(),
+    ),
+    row(
+        Limit::CameAboveAll,
+        "more come into one round's list than the plan has",
+        14,
+        above_all,
+    ),
 ];
 
 /// The rows; that each stands at its limit's place is seen by the compiler.
@@ -359,6 +402,10 @@ fn started_by(place: usize) -> String {
 fn behind_start(place: usize) -> String {
     let name = SYNCHRONISING.get(place / 2).unwrap_or(&"end of steps");
     format!("{name}, {}", HELD[place % 2])
+}
+
+fn broadcast(place: usize) -> String {
+    format!("{} woken, {}", place / 2, HELD[place % 2])
 }
 
 fn joined(place: usize) -> String {

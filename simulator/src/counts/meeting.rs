@@ -2,6 +2,7 @@
 
 use crate::check::Step;
 use crate::counts::limits::{Limit, Met, COMMITTED, OPS, RECORDS, SET, TURNS};
+use crate::counts::waking::Woke;
 use crate::format::{MOST_STEPS, MOST_TURNS, MOST_WORKERS, OP_START};
 
 /// Where a worker stands when it comes to a step, or to its end of steps.
@@ -60,11 +61,12 @@ pub enum Joining {
 }
 
 /// What the holder has done since it got the token: whether it came to a
-/// start, and how many sleepers it started.
+/// start, how many sleepers it started, and how it woke somebody last.
 #[derive(Clone, Copy, Debug, Default, PartialEq, Eq)]
 pub struct Hold {
     pub any: bool,
     pub sleepers: usize,
+    pub woke: Option<Woke>,
 }
 
 /// The limits met by one run, in the order in which it met them.
@@ -74,12 +76,12 @@ pub struct Meetings {
 }
 
 impl Meetings {
-    fn note(&mut self, limit: Limit, member: usize) {
+    pub(super) fn note(&mut self, limit: Limit, member: usize) {
         self.met.push((limit, member as u16));
     }
 
     /// Notes a number that is one of a row's.
-    fn note_one_of<T: PartialEq>(&mut self, limit: Limit, all: &[T], number: T) {
+    pub(super) fn note_one_of<T: PartialEq>(&mut self, limit: Limit, all: &[T], number: T) {
         if let Some(place) = all.iter().position(|each| *each == number) {
             self.note(limit, place);
         }
@@ -196,13 +198,6 @@ impl Meetings {
         match op {
             32 => self.note(Limit::Lock, usize::from(count) - 1),
             _ => self.note(Limit::Unlock, usize::from(count)),
-        }
-    }
-
-    /// A signal or a broadcast with this count.
-    pub fn signals(&mut self, op: u8, count: u8) {
-        if let Some(above) = usize::from(count).checked_sub(1) {
-            self.note(Limit::CountedSignal, 127 * usize::from(op - 35) + above);
         }
     }
 

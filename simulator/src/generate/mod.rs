@@ -3,6 +3,7 @@
 //! Everything here is settled by the seed alone, so a test that finds a
 //! difference can name the seed and find it again.
 
+pub mod broadcasts;
 pub mod buffers;
 pub mod damage;
 pub mod deep;

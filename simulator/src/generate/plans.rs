@@ -2,6 +2,7 @@
 
 use crate::check::Step;
 use crate::format::{MOST_STEPS, MOST_WORKERS, QUEUES};
+use crate::generate::broadcasts::broadcasts;
 use crate::generate::deep::deep;
 use crate::generate::draft::{step, Draft};
 use crate::generate::long_queues::long_queues;
@@ -32,6 +33,8 @@ pub enum PlanKind {
     Loose,
     /// Sleepers and many starts.
     Starts,
+    /// Waiters that are woken by one or all together, and wake each other.
+    Broadcasts,
     /// The longest file: 1,040 records.
     Longest,
     /// The longest log: 1,032 records; without starts, in as many moves as can
@@ -47,7 +50,7 @@ pub enum PlanKind {
 
 impl PlanKind {
     /// Every kind.
-    pub const ALL: [PlanKind; 15] = [
+    pub const ALL: [PlanKind; 16] = [
         PlanKind::Empty,
         PlanKind::Race,
         PlanKind::Locks,
@@ -58,6 +61,7 @@ impl PlanKind {
         PlanKind::Mixed,
         PlanKind::Loose,
         PlanKind::Starts,
+        PlanKind::Broadcasts,
         PlanKind::Longest,
         PlanKind::FullLog,
         PlanKind::Relay,
@@ -73,7 +77,7 @@ impl PlanKind {
     pub const LONG: [PlanKind; 3] = [PlanKind::Longest, PlanKind::FullLog, PlanKind::Relay];
 
     /// The kinds whose plans stay small.
-    pub const SMALL: [PlanKind; 10] = [
+    pub const SMALL: [PlanKind; 11] = [
         PlanKind::Empty,
         PlanKind::Race,
         PlanKind::Locks,
@@ -84,6 +88,7 @@ impl PlanKind {
         PlanKind::Mixed,
         PlanKind::Loose,
         PlanKind::Starts,
+        PlanKind::Broadcasts,
     ];
 
     /// Weights of the blocks: plain, bump, section, wait, signal, barrier,
@@ -103,7 +108,7 @@ impl PlanKind {
             PlanKind::Longest if rng.chance(1, 2) => [4, 4, 6, 0, 4, 0, 0, 0, 0, 0],
             PlanKind::Longest => [12, 12, 18, 2, 14, 2, 0, 0, 0, 2],
             PlanKind::FullLog | PlanKind::Relay => [0; BLOCKS],
-            PlanKind::Deep | PlanKind::LongQueues => [0; BLOCKS],
+            PlanKind::Deep | PlanKind::LongQueues | PlanKind::Broadcasts => [0; BLOCKS],
         }
     }
 }
@@ -122,6 +127,7 @@ pub fn plan(rng: &mut Rng, kind: PlanKind) -> Draft {
         PlanKind::Relay if rng.chance(1, 2) => chain(rng),
         PlanKind::Relay => relay(rng),
         PlanKind::Phases => phases(rng),
+        PlanKind::Broadcasts => broadcasts(rng),
         PlanKind::Deep => {
             let draft = deep(rng);
             with_sleepers(rng, draft)

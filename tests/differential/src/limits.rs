@@ -1,6 +1,7 @@
 //! Plans and turn lists at each limit of the paper, always run before the
 //! random calls. Chance seldom or never goes so far.
 
+mod broadcasts;
 mod depths;
 mod full_lists;
 mod operands;
@@ -37,6 +38,7 @@ impl Limit {
 /// All of them.
 pub fn all() -> Vec<Limit> {
     let parts = [
+        broadcasts::all(),
         depths::all(),
         full_lists::all(),
         operands::all(),

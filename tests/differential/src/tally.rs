@@ -17,7 +17,7 @@ use crate::call::{Call, Verdict};
 use limits::Limits;
 use sleepers::Share;
 
-const OUTCOMES: [&str; 21] = [
+const OUTCOMES: [&str; 27] = [
     "lock, count 1",
     "lock, count above 1",
     "unlock, count 0",
@@ -25,8 +25,6 @@ const OUTCOMES: [&str; 21] = [
     "wait",
     "signal, one woken",
     "signal, nobody",
-    "broadcast, one woken",
-    "broadcast, nobody",
     "barrier, queued",
     "barrier, full at size 1",
     "barrier, full above size 1",
@@ -39,6 +37,14 @@ const OUTCOMES: [&str; 21] = [
     "start of a sleeper, count above 0",
     "start of no sleeper, count 0",
     "start of no sleeper, count above 0",
+    "broadcast, nobody, count 0",
+    "broadcast, nobody, count above 0",
+    "broadcast, one woken, count 0",
+    "broadcast, one woken, count above 0",
+    "broadcast, several woken, count 0",
+    "broadcast, several woken, count above 0",
+    "broadcast, seven woken, count 0",
+    "broadcast, seven woken, count above 0",
 ];
 
 const ENDS: [&str; 3] = ["going", "finished", "stuck"];
@@ -206,11 +212,12 @@ fn numbered(
 
 /// The place of an outcome of a worker with this count before the step.
 fn outcome_kind(op: u8, outcome: u8, count: u8) -> usize {
+    let held = usize::from(count > 0);
     match (op, outcome) {
-        (33, 254) => 13,
-        (34, 254) => 14,
-        (37, 254) => 15,
-        (38, 254) => 16,
+        (33, 254) => 11,
+        (34, 254) => 12,
+        (37, 254) => 13,
+        (38, 254) => 14,
         (32, 1) => 0,
         (32, _) => 1,
         (33, 0) => 2,
@@ -218,13 +225,21 @@ fn outcome_kind(op: u8, outcome: u8, count: u8) -> usize {
         (34, _) => 4,
         (35, 255) => 6,
         (35, _) => 5,
-        (36, 255) => 8,
-        (36, _) => 7,
-        (37, 0) => 9,
-        (37, 1) => 10,
-        (37, _) => 11,
-        (39, 1) => 17 + usize::from(count > 0),
-        (39, _) => 19 + usize::from(count > 0),
-        _ => 12,
+        (36, woken) => 19 + 2 * woken_kind(woken) + held,
+        (37, 0) => 7,
+        (37, 1) => 8,
+        (37, _) => 9,
+        (39, 1) => 15 + held,
+        (39, _) => 17 + held,
+        _ => 10,
+    }
+}
+
+/// Nobody, one, several or seven.
+fn woken_kind(woken: u8) -> usize {
+    match woken {
+        0 | 1 => usize::from(woken),
+        7 => 3,
+        _ => 2,
     }
 }

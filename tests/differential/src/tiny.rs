@@ -8,10 +8,12 @@ type Sketch<const WORKERS: usize> = (&'static [(u8, u16)], [Row; WORKERS]);
 /// Workers that sleep at first, and the steps of so many.
 type Sleeping<const WORKERS: usize> = (&'static [u8], [Row; WORKERS]);
 
-/// A tiny plan and the length up to which all its turn lists are played.
+/// A tiny plan, turns that always come first, and the length up to which all
+/// lists behind them are played.
 pub struct Tiny {
     pub file: Vec<u8>,
     pub workers: usize,
+    pub first: &'static [u8],
     pub length: usize,
 }
 
@@ -33,6 +35,14 @@ const LOCKED_START: Row = &[(32, 0, 0), (39, 0, 1), (33, 0, 0)];
 const START_AND_LOCK: Row = &[(39, 0, 1), (18, 1, 0), (32, 0, 0), (33, 0, 0)];
 const START_AND_SIGNAL: Row = &[(39, 0, 1), (35, 0, 2)];
 const START_AND_MEET: Row = &[(39, 0, 2), (37, 0, 1)];
+const SIGNAL_AND_ALL: Row = &[(32, 0, 0), (35, 0, 2), (36, 0, 2), (33, 0, 0)];
+const WAITS_AND_WAKES: Row = &[(32, 0, 0), (34, 0, 2), (36, 0, 3), (34, 0, 2), (33, 0, 0)];
+const WAKES_AND_WAITS: Row = &[(32, 0, 0), (36, 0, 2), (34, 0, 3), (35, 0, 2), (33, 0, 0)];
+
+/// Behind these turns the first of two, or of three the first two, wait in
+/// round 1.
+const ONE_WAITS: &[u8] = &[0, 1, 0, 0];
+const TWO_WAIT: &[u8] = &[0, 1, 2, 0, 0, 1, 1];
 
 /// The plans.
 pub fn plans() -> Vec<Tiny> {
@@ -60,9 +70,20 @@ pub fn plans() -> Vec<Tiny> {
     all.extend(pairs.map(|(sizes, rows)| tiny(sizes, &rows, 12)));
     all.extend(triples.map(|(sizes, rows)| tiny(sizes, &rows, 8)));
     all.extend(sleeping());
-    // Two are waiting at a broadcast after eight moves.
-    all.push(tiny(&[], &[WAITER, WAITER, BROADCASTER], 9));
+    all.extend(broadcasts());
     all
+}
+
+/// Plans with broadcasts. In the first of them it is the eighth move, and two
+/// are woken.
+fn broadcasts() -> [Tiny; 5] {
+    [
+        tiny(&[], &[WAITER, WAITER, BROADCASTER], 8),
+        tiny(&[], &[WAITER, WAITER, BROADCASTER], 8).behind(TWO_WAIT),
+        tiny(&[], &[WAITER, WAITER, SIGNAL_AND_ALL], 8).behind(TWO_WAIT),
+        tiny(&[], &[WAITER, BROADCASTER], 12),
+        tiny(&[], &[WAITS_AND_WAKES, WAKES_AND_WAITS], 12).behind(ONE_WAITS),
+    ]
 }
 
 /// Plans with sleepers.
@@ -104,12 +125,19 @@ fn of_draft(draft: &Draft, length: usize) -> Tiny {
     Tiny {
         file: draft.file(),
         workers: draft.workers(),
+        first: &[],
         length,
     }
 }
 
 impl Tiny {
-    /// Every turn list up to the length, the empty one first.
+    /// The plan with turns that always come first.
+    fn behind(mut self, first: &'static [u8]) -> Self {
+        self.first = first;
+        self
+    }
+
+    /// Every turn list up to the length, the shortest first.
     pub fn lists(&self) -> impl Iterator<Item = Vec<u8>> + '_ {
         (0..=self.length).flat_map(move |length| {
             let lists = self.workers.pow(length as u32);
@@ -117,11 +145,12 @@ impl Tiny {
         })
     }
 
-    /// The digits of a number, in the base of the count of workers.
+    /// The digits of a number, in the base of the count of workers, behind
+    /// the first turns.
     fn list(&self, mut number: usize, length: usize) -> Vec<u8> {
-        let mut list = vec![0; length];
-        for turn in &mut list {
-            *turn = (number % self.workers) as u8;
+        let mut list = self.first.to_vec();
+        for _ in 0..length {
+            list.push((number % self.workers) as u8);
             number /= self.workers;
         }
         list

@@ -54,7 +54,8 @@ fn rounds(count: usize, beside: u16) -> Vec<Step> {
     times(count, 35, (beside + 1) % 8)
 }
 
-/// Steps that wake so many on a condition, in rounds or in one hold.
+/// So many signals of a condition, or broadcasts, of which the first wakes
+/// all, in rounds or in one hold.
 fn wakes(count: usize, condition: u16, op: u8, locked: bool) -> Vec<Step> {
     let mut steps = times(count, op, condition);
     if locked {
@@ -120,7 +121,8 @@ fn one_short(exiting: u16) -> Draft {
     draft(&[(7 - exiting as u8, 8)], (0..8).map(row).collect())
 }
 
-/// The first waiter waits again, with so many others before it.
+/// The first waiter waits again, behind so many others if it was woken by a
+/// signal, and alone if they were all woken.
 fn waits_again(others: usize, op: u8, locked: bool) -> Draft {
     let waits = [step(32, 0, 0), step(34, 0, 2), step(33, 0, 0)];
     let again = [

@@ -8,7 +8,7 @@ use super::reports::{note_number, ROUNDS};
 
 /// What can come of a step, and the numbers it can have. The first worker
 /// never sleeps.
-const KINDS: [(&str, Range<usize>); 13] = [
+const KINDS: [(&str, Range<usize>); 14] = [
     ("lock", 0..16),
     ("unlock", 0..16),
     ("unlock failed", 0..16),
@@ -16,8 +16,9 @@ const KINDS: [(&str, Range<usize>); 13] = [
     ("wait failed", 0..8),
     ("signal, one woken", 0..8),
     ("signal, nobody", 0..8),
-    ("broadcast, one woken", 0..8),
     ("broadcast, nobody", 0..8),
+    ("broadcast, one woken", 0..8),
+    ("broadcast, several woken", 0..8),
     ("barrier, queued", 0..8),
     ("barrier failed", 0..8),
     ("start of a sleeper", 1..8),
@@ -28,7 +29,7 @@ const KINDS: [(&str, Range<usize>); 13] = [
 pub const ROWS: [Row; 2] = [
     Row {
         name: "outcome by number",
-        members: 127,
+        members: 135,
         named: kind_and_number,
     },
     Row {
@@ -58,12 +59,13 @@ fn kind_of(op: u8, outcome: u8) -> Option<usize> {
         (34, _) => Some(3),
         (35, 255) => Some(6),
         (35, _) => Some(5),
-        (36, 255) => Some(8),
-        (36, _) => Some(7),
-        (37, 0) => Some(9),
-        (37, 254) => Some(10),
-        (39, 1) => Some(11),
-        (39, _) => Some(12),
+        (36, 0) => Some(7),
+        (36, 1) => Some(8),
+        (36, _) => Some(9),
+        (37, 0) => Some(10),
+        (37, 254) => Some(11),
+        (39, 1) => Some(12),
+        (39, _) => Some(13),
         _ => None,
     }
 }

@@ -92,7 +92,8 @@ impl Walk {
         match (record[5], record[7]) {
             (34..=37, 254) => {}
             (34, _) => self.wait(board, worker, number),
-            (35 | 36, woken) if woken != 255 => self.wake(board, record),
+            (35, 255) => {}
+            (35 | 36, _) => self.wake(board, record),
             (37, 0) => self.meet(board, worker, number),
             (37, size) => self.fill(board, number, usize::from(size)),
             _ => {}
@@ -124,17 +125,21 @@ impl Walk {
         }
     }
 
+    /// A signal wakes whom its record names, a broadcast the whole queue.
     fn wake(&mut self, board: &mut Board, record: &[u8]) {
         let (which, condition) = (usize::from(record[5] - 35), usize::from(record[6]));
-        let woken = usize::from(record[7]);
         let queue = &mut self.waiting[condition];
         if out_of_order(queue) {
             board.count(1, 6 * which + queue.len() - 2);
         }
-        queue.retain(|&each| usize::from(each) != woken);
-        board.count(2, 8 * which + woken);
-        self.woken[woken] = Some(condition);
-        self.hold(board, record[4], [record[2], record[3]]);
+        let is_woken = |each: &u8| which == 1 || *each == record[7];
+        let (woken, left): (Vec<u8>, Vec<u8>) = queue.iter().partition(|each| is_woken(each));
+        *queue = left;
+        for worker in woken.into_iter().map(usize::from) {
+            board.count(2, 8 * which + worker);
+            self.woken[worker] = Some(condition);
+            self.hold(board, record[4], [record[2], record[3]]);
+        }
     }
 
     /// One more is woken by this holder in this round.

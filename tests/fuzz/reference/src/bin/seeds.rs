@@ -1,21 +1,24 @@
-//! Writes inputs of the fuzz target with sleepers and starts.
+//! Writes inputs of the fuzz target with sleepers, starts and broadcasts.
 //!
 //! `seeds FOLDER`. tests/fuzz/fuzz.c says how an input is laid out. The inputs
-//! are the same each time: `start-N` are plans with their turns, `sleep-N`
-//! files with a fault of a sleep record or of a start, `long-4` a file of the
-//! greatest length and `long-5` one with a record more, `made-starts` and
-//! `made-sleepers` are steps from which the target makes a file.
+//! are the same each time: `start-N` and `broadcast-N` are plans with their
+//! turns, `sleep-N` files with a fault of a sleep record or of a start,
+//! `long-4` a file of the greatest length and `long-5` one with a record more,
+//! `made-starts`, `made-sleepers` and `made-broadcasts` are steps from which
+//! the target makes a file.
 
 use std::path::Path;
 use std::process::ExitCode;
 use std::{env, fs};
 
-use simulator::format::{MEMORY_LENGTH, OP_SLEEP, OP_START, RECORD_LENGTH};
+use simulator::format::{
+    LOG_RECORD_LENGTH, MEMORY_LENGTH, OP_BROADCAST, OP_SLEEP, OP_START, RECORD_LENGTH,
+};
 use simulator::generate::damage::{single_faults, sleep_damages, start_damages};
 use simulator::generate::faults::{faults, Fault};
 use simulator::generate::{plan, Damaged, Draft, PlanKind, Rng};
 use simulator::turn_machine::End;
-use simulator::{check, Machine};
+use simulator::{check, play_rounds, Machine};
 
 /// Flags of an input: the plan's part is the file, memory of many values, each
 /// turn eight times.
@@ -50,6 +53,8 @@ fn write_all(folder: &Path) -> std::io::Result<usize> {
     all.extend(numbered("sleep", refused()));
     all.extend(longest(&mut rng));
     all.extend(made());
+    all.extend(numbered("broadcast", broadcasts(&mut rng)));
+    all.push(made_broadcasts());
     for (name, bytes) in &all {
         fs::write(folder.join(name), bytes)?;
     }
@@ -98,6 +103,32 @@ fn starts(rng: &mut Rng) -> Vec<Vec<u8>> {
         all.push(input(FILE | rng.pick(&[0, VALUES]), &file, &list));
     }
     all
+}
+
+/// Small plans in which a broadcast wakes several: from two to seven in turn.
+fn broadcasts(rng: &mut Rng) -> Vec<Vec<u8>> {
+    let mut all = Vec::new();
+    while all.len() < 36 {
+        let file = plan(rng, PlanKind::Broadcasts).file();
+        let wanted = 2 + all.len() % 6;
+        if file.len() <= 60 * RECORD_LENGTH && most_woken(&file) == wanted {
+            let list = turns(rng, &file, 400);
+            all.push(input(FILE | rng.pick(&[0, VALUES]), &file, &list));
+        }
+    }
+    all
+}
+
+/// The most workers that a broadcast of a plan wakes.
+fn most_woken(file: &[u8]) -> usize {
+    let plan = check(file).expect("an accepted plan");
+    let log = play_rounds(&plan, &[0; MEMORY_LENGTH]).log;
+    let records = log.chunks_exact(LOG_RECORD_LENGTH);
+    let woken = records.filter(|record| record[5] == OP_BROADCAST);
+    woken
+        .map(|record| usize::from(record[7]))
+        .max()
+        .unwrap_or(0)
 }
 
 /// Sleep records and starts of a small plan that are refused as such, and
@@ -157,4 +188,33 @@ fn made() -> [Named; 2] {
         (name.to_string(), input(VALUES, &plan, &cycles))
     };
     [of("made-starts", &starts), of("made-sleepers", &sleepers)]
+}
+
+/// Four workers and no barrier: two wait on one condition, one on another; the
+/// last signals, wakes the rest within a lock, and the others without one.
+fn made_broadcasts() -> Named {
+    let head = [3, 0, 0, 0, 0, 0, 0, 0, 0];
+    let next_worker = 128;
+    let (store, lock, unlock, wait, signal, broadcast) = (2, 7, 8, 9, 10, 11);
+    let waits = |mark: u8, condition: u8| {
+        [
+            [mark | lock, 0, 3, 0],
+            [wait, 0, condition, 0],
+            [store, 1, 255, 0],
+            [unlock, 0, 3, 0],
+        ]
+    };
+    let wakes = [
+        [next_worker | lock, 0, 5, 0],
+        [signal, 0, 6, 0],
+        [broadcast, 0, 6, 0],
+        [unlock, 0, 5, 0],
+        [broadcast, 0, 4, 0],
+    ];
+    let waiters = [waits(0, 6), waits(next_worker, 6), waits(next_worker, 4)];
+    let steps = [&waiters.concat()[..], &wakes].concat();
+    let plan = [&head[..], &steps.concat()].concat();
+    let cycles = [0, 1, 2, 3].repeat(16);
+    let bytes = input(VALUES, &plan, &cycles);
+    ("made-broadcasts".to_string(), bytes)
 }
