@@ -116,8 +116,8 @@ static inline uint32_t tampermauve_index(uint32_t returned) { return returned / 
 #define TAMPERMAUVE_OP_LOCK 32u      /* a lock */
 #define TAMPERMAUVE_OP_UNLOCK 33u    /* a lock */
 #define TAMPERMAUVE_OP_WAIT 34u      /* a condition */
-#define TAMPERMAUVE_OP_SIGNAL 35u    /* a condition */
-#define TAMPERMAUVE_OP_BROADCAST 36u /* a condition */
+#define TAMPERMAUVE_OP_SIGNAL 35u    /* a condition, whose first waiter is woken */
+#define TAMPERMAUVE_OP_BROADCAST 36u /* a condition, all of whose waiters are woken */
 #define TAMPERMAUVE_OP_BARRIER 37u   /* a barrier */
 #define TAMPERMAUVE_OP_EXIT 38u      /* the number is 0 */
 #define TAMPERMAUVE_OP_START 39u     /* a worker below n */
@@ -156,8 +156,9 @@ static inline uint32_t tampermauve_index(uint32_t returned) { return returned / 
 
 #define TAMPERMAUVE_LOG_MARK 0x4C4Du /* 4D 4C as tampermauve_word reads it */
 
-/* Outcomes. Lock and unlock: the count after. Signal and broadcast: the woken worker, or NONE. Barrier: QUEUED, or the size.
- * Wait and exit: NONE. Start: STARTED, or AWAKE if the worker was not asleep. A failure: FAILED, with the op as met. */
+/* Outcomes. Lock and unlock: the count after. Signal: the woken worker, or NONE. Broadcast: the number woken, 0 if none.
+ * Barrier: QUEUED, or the size. Wait and exit: NONE. Start: STARTED, or AWAKE if the worker was not asleep. A failure: FAILED,
+ * with the op as met. */
 #define TAMPERMAUVE_OUTCOME_QUEUED 0u
 #define TAMPERMAUVE_OUTCOME_STARTED 1u
 #define TAMPERMAUVE_OUTCOME_AWAKE 253u
