@@ -283,6 +283,14 @@ static void put_behind_first(struct queue *q, unsigned worker)
     q->len += 1;
 }
 
+/* Seven leave no rest; it goes up by 64 bits then, which takes two shifts. */
+static void put_all_behind_first(struct queue *q, const struct queue *all)
+{
+    uint64_t rest = q->bytes >> 8;
+    q->bytes = rest << 8 * all->len << 8 | all->bytes << 8 | first_of(q);
+    q->len += all->len;
+}
+
 /* --- The engine --------------------------------------------------------- */
 
 struct worker {
@@ -492,9 +500,7 @@ static void wait_on(struct engine *e, struct worker *w, unsigned condition)
     leave(e, w, ON_CONDITION);
 }
 
-/* A broadcast wakes one waiter, as a signal does. */
-static void wake_one(struct engine *e, struct worker *w, unsigned op,
-                     unsigned condition)
+static void wake_one(struct engine *e, struct worker *w, unsigned condition)
 {
     struct queue *waiting = &e->conditions[condition];
     unsigned woken = NOBODY;
@@ -504,7 +510,20 @@ static void wake_one(struct engine *e, struct worker *w, unsigned op,
         e->workers[woken].fate = GOING;
         put_behind_first(&e->list, woken);
     }
-    write_log(e, w, op, condition, woken);
+    write_log(e, w, OP_SIGNAL, condition, woken);
+    if (w->count == 0)
+        give_up_token(e, w);
+}
+
+static void wake_all(struct engine *e, struct worker *w, unsigned condition)
+{
+    struct queue all = e->conditions[condition];
+    commit(e, w);
+    e->conditions[condition] = (struct queue){0, 0};
+    put_all_behind_first(&e->list, &all);
+    for (unsigned i = 0; i < all.len; i++)
+        e->workers[all.bytes >> 8 * i & 255].fate = GOING;
+    write_log(e, w, OP_BROADCAST, condition, all.len);
     if (w->count == 0)
         give_up_token(e, w);
 }
@@ -582,8 +601,10 @@ static void token_step(struct engine *e, struct worker *w, unsigned op)
         wait_on(e, w, number);
         break;
     case OP_SIGNAL:
+        wake_one(e, w, number);
+        break;
     case OP_BROADCAST:
-        wake_one(e, w, op, number);
+        wake_all(e, w, number);
         break;
     case OP_BARRIER:
         meet(e, w, number);
