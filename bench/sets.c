@@ -286,6 +286,23 @@ static void meeting_sets(void)
     moving_turns(c);
 }
 
+/* Seven workers wait with a lock, and again once they are woken. The eighth has
+ * none, so that it gives up the token and they wait before its next broadcast:
+ * each one wakes all seven. */
+static void broadcasts_set(void)
+{
+    struct set_case *c = set_of_one("broadcasts to seven", WORKERS, 0);
+    for (unsigned worker = 0; worker < WORKERS - 1; worker++) {
+        put(c, worker, LOCK, 0, 0);
+        for (unsigned i = 0; i < STEPS - 2; i++)
+            put(c, worker, WAIT, 0, 0);
+        put(c, worker, UNLOCK, 0, 0);
+    }
+    for (unsigned i = 0; i < STEPS - 2; i++)
+        put(c, WORKERS - 1, BROADCAST, 0, 0);
+    moving_turns(c);
+}
+
 /* Of a worker's starts, the one of this number. The first worker's first seven
  * reach all sleepers; every other start finds its worker awake. */
 static void put_start(struct set_case *c, unsigned worker, unsigned number)
@@ -422,6 +439,7 @@ unsigned make_sets(struct set *sets, int only)
     commit_set();
     section_sets();
     meeting_sets();
+    broadcasts_set();
     starts_set();
     starts_and_stores_set();
     starts_and_signals_set();
