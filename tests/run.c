@@ -1,6 +1,6 @@
-/* tampermauve_run on cases 1 to 10 of document 01 and on plans with sleepers and starts, every byte of every buffer compared, and on
- * the refusals of a run. What is expected is worked out by hand from document 01, "Rounds", "Log and report" and "Plans to check
- * against", and from request One of document 02. */
+/* tampermauve_run on cases 1 to 10 of document 01, on plans with sleepers and starts and on plans with broadcasts, every byte of
+ * every buffer compared, and on the refusals of a run. What is expected is worked out by hand from document 01, "Rounds", "Log and
+ * report" and "Plans to check against", and from requests One and Two of document 02. */
 #include <stdio.h>
 #include <stdlib.h>
 #include <string.h>
@@ -27,7 +27,7 @@ struct expected {
     const char *name;
     uint8_t memory[6]; /* the first bytes; the rest is zero */
     unsigned end, moves, rounds, records;
-    struct entry log[18];
+    struct entry log[43];
     unsigned fates[TAMPERMAUVE_WORKERS_LIMIT]; /* of the plan's workers */
 };
 
@@ -633,6 +633,384 @@ static void sleeping_cases(struct plan_file *f) {
     full_list_case(f);
 }
 
+/* A worker waits with a lock, and unlocks it once it is woken. */
+static void wait_with_lock(struct plan_file *f, unsigned worker, unsigned condition) {
+    plan_sync(f, worker, TAMPERMAUVE_OP_LOCK, 0);
+    plan_sync(f, worker, TAMPERMAUVE_OP_WAIT, condition);
+    plan_sync(f, worker, TAMPERMAUVE_OP_UNLOCK, 0);
+}
+
+/* The same; once woken the worker doubles the word at 0 and adds one more than its own number, so that the word tells in which
+ * order the woken ran. Each does lock and wait, then the six steps behind its wait. */
+static void wait_and_double(struct plan_file *f, unsigned worker, unsigned condition) {
+    plan_sync(f, worker, TAMPERMAUVE_OP_LOCK, 0);
+    plan_sync(f, worker, TAMPERMAUVE_OP_WAIT, condition);
+    plan_add(f, worker, TAMPERMAUVE_OP_LOAD, 0, 0);
+    plan_add(f, worker, TAMPERMAUVE_OP_ADD, 0, 0);
+    plan_add(f, worker, TAMPERMAUVE_OP_SET, 1, worker + 1u);
+    plan_add(f, worker, TAMPERMAUVE_OP_ADD, 0, 1);
+    plan_add(f, worker, TAMPERMAUVE_OP_STORE, 0, 0);
+    plan_sync(f, worker, TAMPERMAUVE_OP_UNLOCK, 0);
+}
+
+/* Workers 0, 4 and 5 give up the token of round 1 by a signal to nobody, so that worker 0 comes to condition 2 behind 1 and 2.
+ * Worker 3 waits on condition 5. In round 2 worker 4 broadcasts on condition 2, with a lock or without, and 5 is at its end. */
+static void three_and_one(struct plan_file *f, int locked) {
+    plan_begin(f, 6);
+    plan_sync(f, 0, TAMPERMAUVE_OP_SIGNAL, 7);
+    wait_and_double(f, 0, 2);
+    wait_and_double(f, 1, 2);
+    wait_and_double(f, 2, 2);
+    wait_and_double(f, 3, 5);
+    plan_sync(f, 4, TAMPERMAUVE_OP_SIGNAL, 7);
+    if (locked) {
+        plan_sync(f, 4, TAMPERMAUVE_OP_LOCK, 0);
+    }
+    plan_sync(f, 4, TAMPERMAUVE_OP_BROADCAST, 2);
+    if (locked) {
+        plan_sync(f, 4, TAMPERMAUVE_OP_UNLOCK, 0);
+    }
+    plan_sync(f, 5, TAMPERMAUVE_OP_SIGNAL, 7);
+}
+
+/* The list of round 2 is 0 4 5, and with the broadcast 4 1 2 0 5: the word is 2, 2 x 2 + 3 = 7, 2 x 7 + 1 = 15. Worker 3 waits for
+ * ever. Moves: six arrivals, a signal, three times lock and wait, two signals; three arrivals, lock and wait, worker 4's three steps
+ * or one, three times six, the end of 5; four arrivals, four ends. */
+static void reached_cases(struct plan_file *f) {
+    static const struct expected with = {"a broadcast to three, with a lock", {15}, 2, 50, 3, 22,
+        {{1, 0, 35, 7, 255}, {1, 1, 32, 0, 1}, {1, 1, 34, 2, 255}, {1, 2, 32, 0, 1}, {1, 2, 34, 2, 255}, {1, 3, 32, 0, 1},
+         {1, 3, 34, 5, 255}, {1, 4, 35, 7, 255}, {1, 5, 35, 7, 255}, {2, 0, 32, 0, 1}, {2, 0, 34, 2, 255}, {2, 4, 32, 0, 1},
+         {2, 4, 36, 2, 3}, {2, 4, 33, 0, 0}, {2, 1, 33, 0, 0}, {2, 2, 33, 0, 0}, {2, 0, 33, 0, 0}, {2, 5, 38, 0, 255},
+         {3, 4, 38, 0, 255}, {3, 1, 38, 0, 255}, {3, 2, 38, 0, 255}, {3, 0, 38, 0, 255}}, {1, 1, 1, 3, 1, 1}};
+    static const struct expected without = {"a broadcast to three, without a lock", {15}, 2, 48, 3, 20,
+        {{1, 0, 35, 7, 255}, {1, 1, 32, 0, 1}, {1, 1, 34, 2, 255}, {1, 2, 32, 0, 1}, {1, 2, 34, 2, 255}, {1, 3, 32, 0, 1},
+         {1, 3, 34, 5, 255}, {1, 4, 35, 7, 255}, {1, 5, 35, 7, 255}, {2, 0, 32, 0, 1}, {2, 0, 34, 2, 255}, {2, 4, 36, 2, 3},
+         {2, 1, 33, 0, 0}, {2, 2, 33, 0, 0}, {2, 0, 33, 0, 0}, {2, 5, 38, 0, 255}, {3, 4, 38, 0, 255}, {3, 1, 38, 0, 255},
+         {3, 2, 38, 0, 255}, {3, 0, 38, 0, 255}}, {1, 1, 1, 3, 1, 1}};
+    three_and_one(f, 1);
+    ends(&with, f, 6, 38, 0);
+    three_and_one(f, 0);
+    ends(&without, f, 6, 36, 0);
+}
+
+/* A broadcast that wakes nobody commits all the same: worker 0 stores 3 at 0 before it, stores 4 at 2 behind it and fails, which
+ * loses the 4. With count 0 it gives up the token, so that worker 1 ends before it fails; with a lock it runs on. */
+static void nobody_cases(struct plan_file *f) {
+    /* set, store, arrival, and the arrival of 1; broadcast, end of 1; set, store, arrival, failure */
+    static const struct expected without = {"a broadcast to nobody, without a lock", {3}, 1, 10, 2, 3,
+        {{1, 0, 36, 1, 0}, {1, 1, 38, 0, 255}, {2, 0, 33, 0, 254}}, {2, 1}};
+    /* two arrivals; lock, set, store, broadcast, set, store, failure; end of 1 */
+    static const struct expected with = {"a broadcast to nobody, with a lock", {3}, 1, 10, 1, 4,
+        {{1, 0, 32, 0, 1}, {1, 0, 36, 1, 0}, {1, 0, 38, 0, 254}, {1, 1, 38, 0, 255}}, {2, 1}};
+    plan_begin(f, 2);
+    store_at(f, 0, 3, 0);
+    plan_sync(f, 0, TAMPERMAUVE_OP_BROADCAST, 1);
+    store_at(f, 0, 4, 2);
+    plan_sync(f, 0, TAMPERMAUVE_OP_UNLOCK, 0);
+    ends(&without, f, 2, 6, 0);
+    plan_begin(f, 2);
+    plan_sync(f, 0, TAMPERMAUVE_OP_LOCK, 0);
+    store_at(f, 0, 3, 0);
+    plan_sync(f, 0, TAMPERMAUVE_OP_BROADCAST, 1);
+    store_at(f, 0, 4, 2);
+    plan_sync(f, 0, TAMPERMAUVE_OP_EXIT, 0);
+    ends(&with, f, 2, 7, 0);
+}
+
+/* Worker 0 waits on condition 3, and the broadcasts on 2 and 4 do not reach it. Two arrivals; lock, wait; broadcast; arrival,
+ * broadcast; arrival, end. */
+static void elsewhere_case(struct plan_file *f) {
+    static const struct expected beside = {"broadcasts on other conditions", {0}, 2, 9, 3, 5,
+        {{1, 0, 32, 0, 1}, {1, 0, 34, 3, 255}, {1, 1, 36, 2, 0}, {2, 1, 36, 4, 0}, {3, 1, 38, 0, 255}}, {3, 1}};
+    plan_begin(f, 2);
+    wait_with_lock(f, 0, 3);
+    plan_sync(f, 1, TAMPERMAUVE_OP_BROADCAST, 2);
+    plan_sync(f, 1, TAMPERMAUVE_OP_BROADCAST, 4);
+    ends(&beside, f, 2, 5, 0);
+}
+
+/* A broadcast to one commits the 9 that worker 1 has stored at 0, and the woken worker copies it to 2. Without a lock worker 1 copies
+ * it from there in round 2: its own copy of the page is dropped. */
+static void one_waiter_cases(struct plan_file *f) {
+    /* arrival; set, store, arrival; lock, wait; broadcast, and the next list is 1; load, store, unlock: 1 0; load, store, arrival,
+     * and the arrival of 0; two ends */
+    static const struct expected without = {"a broadcast to one, without a lock", {9, 0, 9, 0, 9}, 1, 16, 2, 6,
+        {{1, 0, 32, 0, 1}, {1, 0, 34, 0, 255}, {1, 1, 36, 0, 1}, {1, 0, 33, 0, 0}, {2, 1, 38, 0, 255}, {2, 0, 38, 0, 255}}, {1, 1}};
+    /* two arrivals; lock, wait; lock, set, store, broadcast, set, store, failure, which loses the 8; load, store, unlock;
+     * arrival, end */
+    static const struct expected with = {"a broadcast to one, and a failure", {9, 0, 9}, 1, 16, 2, 7,
+        {{1, 0, 32, 0, 1}, {1, 0, 34, 0, 255}, {1, 1, 32, 0, 1}, {1, 1, 36, 0, 1}, {1, 1, 38, 0, 254}, {1, 0, 33, 0, 0},
+         {2, 0, 38, 0, 255}}, {1, 2}};
+    int locked;
+    for (locked = 0; locked < 2; locked++) {
+        plan_begin(f, 2);
+        plan_sync(f, 0, TAMPERMAUVE_OP_LOCK, 0);
+        plan_sync(f, 0, TAMPERMAUVE_OP_WAIT, 0);
+        copy_word(f, 0, 0, 2);
+        plan_sync(f, 0, TAMPERMAUVE_OP_UNLOCK, 0);
+        if (locked) {
+            plan_sync(f, 1, TAMPERMAUVE_OP_LOCK, 0);
+        }
+        store_at(f, 1, 9, 0);
+        plan_sync(f, 1, TAMPERMAUVE_OP_BROADCAST, 0);
+        if (locked) {
+            store_at(f, 1, 8, 4);
+            plan_sync(f, 1, TAMPERMAUVE_OP_EXIT, 0);
+        } else {
+            copy_word(f, 1, 2, 4);
+        }
+        ends(locked ? &with : &without, f, 2, locked ? 12 : 10, 0);
+    }
+}
+
+/* Worker 3, with a lock, wakes 0 by a signal: its list is 3 0 4. Then it wakes 1 and 2 by a broadcast: 3 1 2 0 4. The word is 2,
+ * 7, 15. Moves: five arrivals, three times lock and wait, four steps, three times six, the end of 4; four arrivals, four ends. */
+static void signal_first_case(struct plan_file *f) {
+    static const struct expected behind = {"a signal, then a broadcast", {15}, 1, 42, 2, 18,
+        {{1, 0, 32, 0, 1}, {1, 0, 34, 0, 255}, {1, 1, 32, 0, 1}, {1, 1, 34, 0, 255}, {1, 2, 32, 0, 1}, {1, 2, 34, 0, 255},
+         {1, 3, 32, 0, 1}, {1, 3, 35, 0, 0}, {1, 3, 36, 0, 2}, {1, 3, 33, 0, 0}, {1, 1, 33, 0, 0}, {1, 2, 33, 0, 0},
+         {1, 0, 33, 0, 0}, {1, 4, 38, 0, 255}, {2, 3, 38, 0, 255}, {2, 1, 38, 0, 255}, {2, 2, 38, 0, 255}, {2, 0, 38, 0, 255}},
+        {1, 1, 1, 1, 1}};
+    unsigned w;
+    plan_begin(f, 5);
+    for (w = 0; w < 3; w++) {
+        wait_and_double(f, w, 0);
+    }
+    plan_sync(f, 3, TAMPERMAUVE_OP_LOCK, 0);
+    plan_sync(f, 3, TAMPERMAUVE_OP_SIGNAL, 0);
+    plan_sync(f, 3, TAMPERMAUVE_OP_BROADCAST, 0);
+    plan_sync(f, 3, TAMPERMAUVE_OP_UNLOCK, 0);
+    ends(&behind, f, 5, 28, 0);
+}
+
+/* Workers 0 and 1 wait on condition 0, worker 2 on 1. Worker 3, with a lock, wakes 0 and 1 by a broadcast: its list is 3 0 1 4.
+ * Then 2 by a signal: 3 2 0 1 4; a signal on condition 0 finds nobody there any more. The word is 3, 2 x 3 + 1 = 7, 2 x 7 + 2 = 16.
+ * Moves: five arrivals, three times lock and wait, five steps, three times six, the end of 4; four arrivals, four ends. */
+static void broadcast_first_case(struct plan_file *f) {
+    static const struct expected before = {"a broadcast, then a signal", {16}, 1, 43, 2, 19,
+        {{1, 0, 32, 0, 1}, {1, 0, 34, 0, 255}, {1, 1, 32, 0, 1}, {1, 1, 34, 0, 255}, {1, 2, 32, 0, 1}, {1, 2, 34, 1, 255},
+         {1, 3, 32, 0, 1}, {1, 3, 36, 0, 2}, {1, 3, 35, 1, 2}, {1, 3, 35, 0, 255}, {1, 3, 33, 0, 0}, {1, 2, 33, 0, 0},
+         {1, 0, 33, 0, 0}, {1, 1, 33, 0, 0}, {1, 4, 38, 0, 255}, {2, 3, 38, 0, 255}, {2, 2, 38, 0, 255}, {2, 0, 38, 0, 255},
+         {2, 1, 38, 0, 255}}, {1, 1, 1, 1, 1}};
+    plan_begin(f, 5);
+    wait_and_double(f, 0, 0);
+    wait_and_double(f, 1, 0);
+    wait_and_double(f, 2, 1);
+    plan_sync(f, 3, TAMPERMAUVE_OP_LOCK, 0);
+    plan_sync(f, 3, TAMPERMAUVE_OP_BROADCAST, 0);
+    plan_sync(f, 3, TAMPERMAUVE_OP_SIGNAL, 1);
+    plan_sync(f, 3, TAMPERMAUVE_OP_SIGNAL, 0);
+    plan_sync(f, 3, TAMPERMAUVE_OP_UNLOCK, 0);
+    ends(&before, f, 5, 29, 0);
+}
+
+/* Worker 4, with a lock, wakes 0 and 1 on condition 0: its list is 4 0 1. Then 2 and 3 on condition 1: 4 2 3 0 1; then nobody
+ * there any more. The word is 3, 2 x 3 + 4 = 10, 2 x 10 + 1 = 21, 2 x 21 + 2 = 44. Moves: five arrivals, four times lock and
+ * wait, five steps, four times six; five arrivals, five ends. */
+static void two_broadcasts_case(struct plan_file *f) {
+    static const struct expected two = {"a broadcast, then another", {44}, 1, 52, 2, 22,
+        {{1, 0, 32, 0, 1}, {1, 0, 34, 0, 255}, {1, 1, 32, 0, 1}, {1, 1, 34, 0, 255}, {1, 2, 32, 0, 1}, {1, 2, 34, 1, 255},
+         {1, 3, 32, 0, 1}, {1, 3, 34, 1, 255}, {1, 4, 32, 0, 1}, {1, 4, 36, 0, 2}, {1, 4, 36, 1, 2}, {1, 4, 36, 1, 0},
+         {1, 4, 33, 0, 0}, {1, 2, 33, 0, 0}, {1, 3, 33, 0, 0}, {1, 0, 33, 0, 0}, {1, 1, 33, 0, 0}, {2, 4, 38, 0, 255},
+         {2, 2, 38, 0, 255}, {2, 3, 38, 0, 255}, {2, 0, 38, 0, 255}, {2, 1, 38, 0, 255}}, {1, 1, 1, 1, 1}};
+    unsigned w;
+    plan_begin(f, 5);
+    for (w = 0; w < 4; w++) {
+        wait_and_double(f, w, w / 2u);
+    }
+    plan_sync(f, 4, TAMPERMAUVE_OP_LOCK, 0);
+    plan_sync(f, 4, TAMPERMAUVE_OP_BROADCAST, 0);
+    plan_sync(f, 4, TAMPERMAUVE_OP_BROADCAST, 1);
+    plan_sync(f, 4, TAMPERMAUVE_OP_BROADCAST, 1);
+    plan_sync(f, 4, TAMPERMAUVE_OP_UNLOCK, 0);
+    ends(&two, f, 5, 37, 0);
+}
+
+/* Worker 2 broadcasts to 0 and 1 and waits on condition 1, from which 0 wakes it by a signal before 1 has run, to wait again
+ * itself. So round 1, which began with three, has had nine in its list: 0 1 2, then 0 1, 2, 0, 2, 0. Worker 1 comes last, signals
+ * to nobody and waits for ever. Moves: three arrivals, 18 steps; two arrivals, two ends. */
+static void to_and_fro_case(struct plan_file *f) {
+    static const struct expected nine = {"nine in the list of three", {0}, 2, 25, 2, 20,
+        {{1, 0, 32, 0, 1}, {1, 0, 34, 0, 255}, {1, 1, 32, 0, 1}, {1, 1, 34, 0, 255}, {1, 2, 32, 0, 1}, {1, 2, 36, 0, 2},
+         {1, 2, 34, 1, 255}, {1, 0, 35, 1, 2}, {1, 0, 34, 0, 255}, {1, 2, 36, 0, 1}, {1, 2, 34, 1, 255}, {1, 0, 35, 1, 2},
+         {1, 0, 34, 0, 255}, {1, 2, 36, 0, 1}, {1, 2, 33, 0, 0}, {1, 0, 33, 0, 0}, {1, 1, 35, 1, 255}, {1, 1, 34, 0, 255},
+         {2, 2, 38, 0, 255}, {2, 0, 38, 0, 255}}, {1, 3, 1}};
+    plan_begin(f, 3);
+    plan_sync(f, 0, TAMPERMAUVE_OP_LOCK, 0);
+    plan_sync(f, 0, TAMPERMAUVE_OP_WAIT, 0);
+    plan_sync(f, 0, TAMPERMAUVE_OP_SIGNAL, 1);
+    plan_sync(f, 0, TAMPERMAUVE_OP_WAIT, 0);
+    plan_sync(f, 0, TAMPERMAUVE_OP_SIGNAL, 1);
+    plan_sync(f, 0, TAMPERMAUVE_OP_WAIT, 0);
+    plan_sync(f, 0, TAMPERMAUVE_OP_UNLOCK, 0);
+    plan_sync(f, 1, TAMPERMAUVE_OP_LOCK, 0);
+    plan_sync(f, 1, TAMPERMAUVE_OP_WAIT, 0);
+    plan_sync(f, 1, TAMPERMAUVE_OP_SIGNAL, 1);
+    plan_sync(f, 1, TAMPERMAUVE_OP_WAIT, 0);
+    plan_sync(f, 1, TAMPERMAUVE_OP_UNLOCK, 0);
+    plan_sync(f, 2, TAMPERMAUVE_OP_LOCK, 0);
+    plan_sync(f, 2, TAMPERMAUVE_OP_BROADCAST, 0);
+    plan_sync(f, 2, TAMPERMAUVE_OP_WAIT, 1);
+    plan_sync(f, 2, TAMPERMAUVE_OP_BROADCAST, 0);
+    plan_sync(f, 2, TAMPERMAUVE_OP_WAIT, 1);
+    plan_sync(f, 2, TAMPERMAUVE_OP_BROADCAST, 0);
+    plan_sync(f, 2, TAMPERMAUVE_OP_UNLOCK, 0);
+    ends(&nine, f, 3, 19, 0);
+}
+
+/* Worker 7, with a lock, wakes all the others: the word is 1, 4, 11, 26, 57, 120, 247. Moves: eight arrivals, seven times lock
+ * and wait, three steps, seven times six; eight arrivals, eight ends. */
+static void seven_case(struct plan_file *f) {
+    static const struct expected seven = {"a broadcast to seven", {247}, 1, 83, 2, 32,
+        {{1, 0, 32, 0, 1}, {1, 0, 34, 7, 255}, {1, 1, 32, 0, 1}, {1, 1, 34, 7, 255}, {1, 2, 32, 0, 1}, {1, 2, 34, 7, 255},
+         {1, 3, 32, 0, 1}, {1, 3, 34, 7, 255}, {1, 4, 32, 0, 1}, {1, 4, 34, 7, 255}, {1, 5, 32, 0, 1}, {1, 5, 34, 7, 255},
+         {1, 6, 32, 0, 1}, {1, 6, 34, 7, 255}, {1, 7, 32, 0, 1}, {1, 7, 36, 7, 7}, {1, 7, 33, 0, 0}, {1, 0, 33, 0, 0},
+         {1, 1, 33, 0, 0}, {1, 2, 33, 0, 0}, {1, 3, 33, 0, 0}, {1, 4, 33, 0, 0}, {1, 5, 33, 0, 0}, {1, 6, 33, 0, 0},
+         {2, 7, 38, 0, 255}, {2, 0, 38, 0, 255}, {2, 1, 38, 0, 255}, {2, 2, 38, 0, 255}, {2, 3, 38, 0, 255}, {2, 4, 38, 0, 255},
+         {2, 5, 38, 0, 255}, {2, 6, 38, 0, 255}}, {1, 1, 1, 1, 1, 1, 1, 1}};
+    unsigned w;
+    plan_begin(f, 8);
+    for (w = 0; w < 7; w++) {
+        wait_and_double(f, w, 7);
+    }
+    plan_sync(f, 7, TAMPERMAUVE_OP_LOCK, 0);
+    plan_sync(f, 7, TAMPERMAUVE_OP_BROADCAST, 7);
+    plan_sync(f, 7, TAMPERMAUVE_OP_UNLOCK, 0);
+    ends(&seven, f, 8, 59, 0);
+}
+
+/* Worker 6 wakes six, and worker 7 is behind it: its list is all eight, 6 0 1 2 3 4 5 7. The word is 1, 4, 11, 26, 57, 120. Moves:
+ * eight arrivals, six times lock and wait, a broadcast, six times six, the end of 7; seven arrivals, seven ends. */
+static void full_round_case(struct plan_file *f) {
+    static const struct expected six = {"a broadcast to six before one more", {120}, 1, 72, 2, 27,
+        {{1, 0, 32, 0, 1}, {1, 0, 34, 0, 255}, {1, 1, 32, 0, 1}, {1, 1, 34, 0, 255}, {1, 2, 32, 0, 1}, {1, 2, 34, 0, 255},
+         {1, 3, 32, 0, 1}, {1, 3, 34, 0, 255}, {1, 4, 32, 0, 1}, {1, 4, 34, 0, 255}, {1, 5, 32, 0, 1}, {1, 5, 34, 0, 255},
+         {1, 6, 36, 0, 6}, {1, 0, 33, 0, 0}, {1, 1, 33, 0, 0}, {1, 2, 33, 0, 0}, {1, 3, 33, 0, 0}, {1, 4, 33, 0, 0},
+         {1, 5, 33, 0, 0}, {1, 7, 38, 0, 255}, {2, 6, 38, 0, 255}, {2, 0, 38, 0, 255}, {2, 1, 38, 0, 255}, {2, 2, 38, 0, 255},
+         {2, 3, 38, 0, 255}, {2, 4, 38, 0, 255}, {2, 5, 38, 0, 255}}, {1, 1, 1, 1, 1, 1, 1, 1}};
+    unsigned w;
+    plan_begin(f, 8);
+    for (w = 0; w < 6; w++) {
+        wait_and_double(f, w, 0);
+    }
+    plan_sync(f, 6, TAMPERMAUVE_OP_BROADCAST, 0);
+    ends(&six, f, 8, 49, 0);
+}
+
+/* Round 2 has 16 in its list: worker 0, the seven whom it wakes, itself, whom the last of them wakes when all others wait again,
+ * and the seven once more. Moves: eight arrivals, a signal to nobody, seven times lock and wait; an arrival; lock, broadcast and
+ * wait of 0, six waits, broadcast and wait of 7, broadcast and unlock of 0, seven unlocks; eight arrivals, eight ends. */
+static void sixteen_case(struct plan_file *f) {
+    static const struct expected twice = {"sixteen in the list of eight", {0}, 1, 60, 3, 43,
+        {{1, 0, 35, 1, 255}, {1, 1, 32, 0, 1}, {1, 1, 34, 0, 255}, {1, 2, 32, 0, 1}, {1, 2, 34, 0, 255}, {1, 3, 32, 0, 1},
+         {1, 3, 34, 0, 255}, {1, 4, 32, 0, 1}, {1, 4, 34, 0, 255}, {1, 5, 32, 0, 1}, {1, 5, 34, 0, 255}, {1, 6, 32, 0, 1},
+         {1, 6, 34, 0, 255}, {1, 7, 32, 0, 1}, {1, 7, 34, 0, 255}, {2, 0, 32, 0, 1}, {2, 0, 36, 0, 7}, {2, 0, 34, 1, 255},
+         {2, 1, 34, 0, 255}, {2, 2, 34, 0, 255}, {2, 3, 34, 0, 255}, {2, 4, 34, 0, 255}, {2, 5, 34, 0, 255}, {2, 6, 34, 0, 255},
+         {2, 7, 36, 1, 1}, {2, 7, 34, 0, 255}, {2, 0, 36, 0, 7}, {2, 0, 33, 0, 0}, {2, 1, 33, 0, 0}, {2, 2, 33, 0, 0},
+         {2, 3, 33, 0, 0}, {2, 4, 33, 0, 0}, {2, 5, 33, 0, 0}, {2, 6, 33, 0, 0}, {2, 7, 33, 0, 0}, {3, 0, 38, 0, 255},
+         {3, 1, 38, 0, 255}, {3, 2, 38, 0, 255}, {3, 3, 38, 0, 255}, {3, 4, 38, 0, 255}, {3, 5, 38, 0, 255}, {3, 6, 38, 0, 255},
+         {3, 7, 38, 0, 255}}, {1, 1, 1, 1, 1, 1, 1, 1}};
+    unsigned w;
+    plan_begin(f, 8);
+    plan_sync(f, 0, TAMPERMAUVE_OP_SIGNAL, 1);
+    plan_sync(f, 0, TAMPERMAUVE_OP_LOCK, 0);
+    plan_sync(f, 0, TAMPERMAUVE_OP_BROADCAST, 0);
+    plan_sync(f, 0, TAMPERMAUVE_OP_WAIT, 1);
+    plan_sync(f, 0, TAMPERMAUVE_OP_BROADCAST, 0);
+    plan_sync(f, 0, TAMPERMAUVE_OP_UNLOCK, 0);
+    for (w = 1; w < 8; w++) {
+        plan_sync(f, w, TAMPERMAUVE_OP_LOCK, 0);
+        plan_sync(f, w, TAMPERMAUVE_OP_WAIT, 0);
+        if (w == 7) {
+            plan_sync(f, w, TAMPERMAUVE_OP_BROADCAST, 1);
+        }
+        plan_sync(f, w, TAMPERMAUVE_OP_WAIT, 0);
+        plan_sync(f, w, TAMPERMAUVE_OP_UNLOCK, 0);
+    }
+    ends(&twice, f, 8, 35, 0);
+}
+
+/* A woken worker has its count and its registers still: worker 0 waits with two locks, worker 1 with 5 in register 2. Arrival;
+ * set, arrival; arrival; two locks, wait; lock, wait; broadcast; two unlocks; store, unlock; three arrivals, three ends. */
+static void kept_case(struct plan_file *f) {
+    static const struct expected kept = {"count and registers over a broadcast", {5}, 1, 20, 2, 12,
+        {{1, 0, 32, 3, 1}, {1, 0, 32, 4, 2}, {1, 0, 34, 0, 255}, {1, 1, 32, 0, 1}, {1, 1, 34, 0, 255}, {1, 2, 36, 0, 2},
+         {1, 0, 33, 4, 1}, {1, 0, 33, 3, 0}, {1, 1, 33, 0, 0}, {2, 2, 38, 0, 255}, {2, 0, 38, 0, 255}, {2, 1, 38, 0, 255}},
+        {1, 1, 1}};
+    plan_begin(f, 3);
+    plan_sync(f, 0, TAMPERMAUVE_OP_LOCK, 3);
+    plan_sync(f, 0, TAMPERMAUVE_OP_LOCK, 4);
+    plan_sync(f, 0, TAMPERMAUVE_OP_WAIT, 0);
+    plan_sync(f, 0, TAMPERMAUVE_OP_UNLOCK, 4);
+    plan_sync(f, 0, TAMPERMAUVE_OP_UNLOCK, 3);
+    plan_add(f, 1, TAMPERMAUVE_OP_SET, 2, 5);
+    plan_sync(f, 1, TAMPERMAUVE_OP_LOCK, 0);
+    plan_sync(f, 1, TAMPERMAUVE_OP_WAIT, 0);
+    plan_add(f, 1, TAMPERMAUVE_OP_STORE, 2, 0);
+    plan_sync(f, 1, TAMPERMAUVE_OP_UNLOCK, 0);
+    plan_sync(f, 2, TAMPERMAUVE_OP_BROADCAST, 0);
+    ends(&kept, f, 3, 11, 0);
+}
+
+/* Worker 2 starts 3 into the next list and wakes 0 and 1 into this one. The next list is 3, 3 2, 3 2 0, 3 2 0 1. Moves: three
+ * arrivals, twice lock and wait, start, broadcast, two unlocks; four arrivals, four ends. */
+static void start_and_broadcast_case(struct plan_file *f) {
+    static const struct expected both = {"a start and a broadcast", {0}, 1, 19, 2, 12,
+        {{1, 0, 32, 0, 1}, {1, 0, 34, 0, 255}, {1, 1, 32, 0, 1}, {1, 1, 34, 0, 255}, {1, 2, 39, 3, 1}, {1, 2, 36, 0, 2},
+         {1, 0, 33, 0, 0}, {1, 1, 33, 0, 0}, {2, 3, 38, 0, 255}, {2, 2, 38, 0, 255}, {2, 0, 38, 0, 255}, {2, 1, 38, 0, 255}},
+        {1, 1, 1, 1}};
+    plan_begin(f, 4);
+    plan_sleep(f, 3);
+    wait_with_lock(f, 0, 0);
+    wait_with_lock(f, 1, 0);
+    plan_sync(f, 2, TAMPERMAUVE_OP_START, 3);
+    plan_sync(f, 2, TAMPERMAUVE_OP_BROADCAST, 0);
+    ends(&both, f, 4, 8, 0);
+}
+
+/* A broadcast under way. Right behind it the woken are going, but their turns pass until worker 2 gives up the token, and those
+ * of the second one until the first does. */
+static void woken_turns_cases(struct plan_file *f) {
+    static const struct expected waiting = {"before the broadcast", {0}, 0, 8, 0, 5,
+        {{1, 0, 32, 0, 1}, {1, 0, 34, 0, 255}, {1, 1, 32, 0, 1}, {1, 1, 34, 0, 255}, {1, 2, 32, 0, 1}}, {3, 3, 0}};
+    static const struct expected woken = {"right behind the broadcast", {0}, 0, 9, 0, 6,
+        {{1, 0, 32, 0, 1}, {1, 0, 34, 0, 255}, {1, 1, 32, 0, 1}, {1, 1, 34, 0, 255}, {1, 2, 32, 0, 1}, {1, 2, 36, 0, 2}}, {0, 0, 0}};
+    static const struct expected second = {"the second of the woken", {0}, 0, 10, 0, 7,
+        {{1, 0, 32, 0, 1}, {1, 0, 34, 0, 255}, {1, 1, 32, 0, 1}, {1, 1, 34, 0, 255}, {1, 2, 32, 0, 1}, {1, 2, 36, 0, 2},
+         {1, 2, 33, 0, 0}}, {0, 0, 0}};
+    static const struct expected both = {"both of the woken", {0}, 0, 12, 1, 9,
+        {{1, 0, 32, 0, 1}, {1, 0, 34, 0, 255}, {1, 1, 32, 0, 1}, {1, 1, 34, 0, 255}, {1, 2, 32, 0, 1}, {1, 2, 36, 0, 2},
+         {1, 2, 33, 0, 0}, {1, 0, 33, 0, 0}, {1, 1, 33, 0, 0}}, {0, 0, 0}};
+    static const uint8_t turns[15] = {0, 1, 2, 0, 0, 1, 1, 2, 2, 0, 1, 2, 1, 0, 1};
+    plan_begin(f, 3);
+    wait_with_lock(f, 0, 0);
+    wait_with_lock(f, 1, 0);
+    plan_sync(f, 2, TAMPERMAUVE_OP_LOCK, 0);
+    plan_sync(f, 2, TAMPERMAUVE_OP_BROADCAST, 0);
+    plan_sync(f, 2, TAMPERMAUVE_OP_UNLOCK, 0);
+    play(&waiting, f, 3, turns, 8, 0);
+    play(&woken, f, 3, turns, 11, 0);
+    play(&second, f, 3, turns, 13, 0);
+    play(&both, f, 3, turns, 15, 0);
+}
+
+static void broadcast_cases(struct plan_file *f) {
+    reached_cases(f);
+    nobody_cases(f);
+    elsewhere_case(f);
+    one_waiter_cases(f);
+    signal_first_case(f);
+    broadcast_first_case(f);
+    two_broadcasts_case(f);
+    to_and_fro_case(f);
+    seven_case(f);
+    full_round_case(f);
+    sixteen_case(f);
+    kept_case(f);
+    start_and_broadcast_case(f);
+    woken_turns_cases(f);
+}
+
 /* A refused run, with buffers of the lengths told: no byte of them is changed. */
 static void refused(const char *name, const struct plan_file *f, const uint8_t *turns, size_t turns_length, const size_t told[4],
                     uint32_t wanted) {
@@ -695,6 +1073,7 @@ int main(void) {
     memory_cases(&f);
     token_cases(&f);
     sleeping_cases(&f);
+    broadcast_cases(&f);
     refusals(&f);
     sleep_refusals(&f);
     printf("run: %u checks, %u failures\n", checks, failures);

@@ -28,8 +28,9 @@ static void write_starts(unsigned starter) {
     }
 }
 
-/* The first worker starts the others, who sleep. The last one wakes the first from a condition, and each that is woken the next;
- * all meet at a barrier, and then go through parts in which they load, store over page borders, lock and unlock. */
+/* The first worker starts the others, who sleep. The last one wakes the first from a condition by a signal and the six others by a
+ * broadcast; each that is woken broadcasts to nobody. All meet at a barrier, and then go through parts in which they load, store over
+ * page borders, lock and unlock. */
 static void write_plan(void) {
     unsigned w, k;
     plan_begin(&file, TAMPERMAUVE_WORKERS_LIMIT);
