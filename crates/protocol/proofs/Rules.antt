@@ -1,16 +1,16 @@
 -- Every rule of Rounds is lawful.
 use Prim.Native.Nat.{ℕ, _+_, _-_, _<_, _≤_}
 use native.Mathlib.Decide.{ℕ-discrete}
+use native.Mathlib.Nat.{le-refl}
 use native.Mathlib.Omega.{arith}
 use mathlib.Core.Bool.{Bool, true, false, cond, not}
-use mathlib.Core.Path.{_≡_, refl, sym, ap, _∙_, subst}
+use mathlib.Core.Path.{_≡_, refl, sym, ap, _∙_}
 use mathlib.Core.List.{List, [], append-nil}
 use lib.Dec.{eqb, ltb}
-use lib.ListN.{length, getD, take}
-use lib.Seq.{take-length}
+use lib.ListN.{length, getD}
 use Rattle.protocol.specs.Format.{Sync, lock, unlock, wait, signal, broadcast, barrier, startWorker, exit, sync, Plan}
 use Rattle.protocol.specs.Steps.{QueueName, onCondition, atBarrier, Fate, going, exited, failed, asleep, waiting, stepsOf, stepAt}
-use Rattle.protocol.specs.Rounds.{State, workerAt, waitsOn, keep, queueOf, fateIn, isAsleep, Uncommitted, committed, lost, Goes, keeps, gives, leaves, ruling, failure, givesAtZero, outcomeNone}
+use Rattle.protocol.specs.Rounds.{State, workerAt, waitsOn, keep, queueOf, fateIn, isAsleep, Uncommitted, committed, lost, Goes, keeps, gives, leaves, ruling, failure, givesAtZero}
 use Rattle.protocol.specs.Rounds.{commitsAtZero, lockRule, unlockRule, waitRule, wakeRule, signalRule, broadcastRule, barrierRule, startRule, exitRule, ruleOf, fateAfter, hasArrived}
 use Rattle.protocol.specs.Demands.{occurs}
 use Rattle.protocol.proofs.Bools.{split}
@@ -139,14 +139,14 @@ module _ (plan : Plan) (s : State) (h : ℕ) (c : Core plan s) (l : Listed plan 
         go true = fails
         go false = quiet _ _ (leaves (waiting (onCondition q))) _ (omega (arith, c .sane h .heldPlace)) (c .sane h .heldSteps) (omega arith) refl
 
-    -- some or all of a condition's queue go behind the holder, the first of them first, whatever the outcome
-    wakes-some : (q k o : ℕ) → Lawful plan s h (wakeRule (take k (queueOf s (onCondition q))) (workerAt s h .held) o)
-    wakes-some q k o =
-        let queued : List ℕ = queueOf s (onCondition q) in
+    -- some or all of a condition's queue go behind the holder, however many, whatever the outcome
+    wakes-some : (q : ℕ) (ws : List ℕ) (o : ℕ) → ((w : ℕ) → occurs w ws ≤ occurs w (queueOf s (onCondition q)))
+        → Lawful plan s h (wakeRule ws (workerAt s h .held) o)
+    wakes-some q ws o some =
         let goes = gives-or-keeps (eqb (workerAt s h .held) 0) in
         record {
-          out = λ w. omega (arith, ap (occurs w) (append-nil (take k queued)), occurs-take w k queued, queue-counts s (onCondition q) w);
-          woken = λ w z. queue-arrived plan s (onCondition q) w c (omega (arith, occurs-take w k queued));
+          out = λ w. omega (arith, ap (occurs w) (append-nil ws), some w, queue-counts s (onCondition q) w);
+          woken = λ w z. queue-arrived plan s (onCondition q) w c (omega (arith, some w));
           joined = λ w z. absurd (omega (arith, occurs-empty w));
           heldPlace = omega (arith, c .sane h .heldPlace);
           heldSteps = c .sane h .heldSteps;
@@ -155,12 +155,10 @@ module _ (plan : Plan) (s : State) (h : ℕ) (c : Core plan s) (l : Listed plan 
         }
 
     signals : (q : ℕ) → Lawful plan s h (signalRule (queueOf s (onCondition q)) (workerAt s h .held))
-    signals q = wakes-some q 1 (getD (queueOf s (onCondition q)) 0 outcomeNone)
+    signals q = wakes-some q _ _ (λ w. occurs-take w 1 (queueOf s (onCondition q)))
 
     broadcasts : (q : ℕ) → Lawful plan s h (broadcastRule (queueOf s (onCondition q)) (workerAt s h .held))
-    broadcasts q =
-        let queued : List ℕ = queueOf s (onCondition q) in
-        subst (λ (ws : List ℕ). Lawful plan s h (wakeRule ws (workerAt s h .held) (length queued))) (take-length queued) (wakes-some q (length queued) (length queued))
+    broadcasts q = wakes-some q _ _ (λ w. le-refl (occurs w (queueOf s (onCondition q))))
 
     meets : (b : ℕ) (size : ℕ) → Lawful plan s h (barrierRule b size (queueOf s (atBarrier b)) (workerAt s h .held))
     meets b size = go (not (eqb (workerAt s h .held) 0)) (ltb (length (queueOf s (atBarrier b))) (size - 1))

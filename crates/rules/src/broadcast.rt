@@ -32,11 +32,12 @@ fn rouse(waiting: Queue, fates: &mut [u64; WORKERS_LIMIT], code: u64) -> Roused
     let mut left = Queue::empty();
     while !unseen.is_empty() {
         let v = unseen.first();
+        let one = Queue::one(v);
         if fates[v as usize] == code {
             fates[v as usize] = GOING;
-            woken = woken.push(v);
+            woken = woken.append(one);
         } else {
-            left = left.push(v);
+            left = left.append(one);
         }
         unseen = unseen.rest();
     }

@@ -6,7 +6,7 @@ use mathlib.Core.Path.{ap}
 use denote.Ref.{now}
 use lib.ListN.{length, length-append}
 use Rattle.queue.specs.List.{listOf}
-use Rattle.queue.proofs.Laws.{length-rest}
+use Rattle.queue.proofs.Laws.{good-short, length-rest}
 use Rattle.rules.proofs.Broadcasts.{asked-by, few-woken, gives-up, runs-on}
 use Rattle.rules.proofs.broadcast.broadcast.Statement.{statement}
 use Rattle.rules.proofs.broadcast.broadcast.Tie as tie
@@ -44,13 +44,15 @@ room c =
     omega (arith, few-woken (from-rest c .rouse .ensures), ap length (c .rest .ensures .list), length-rest (listOf (s .args .lists .list)) (p .first), p .total)
 
 append-requires : tie.Need-append-requires
-append-requires c κs = (from-rest c .rouse .ensures .woken .good, c .rest .ensures .good, omega (arith, room c))
+append-requires c κs = let woken = from-rest c .rouse .ensures .woken .good in (search (needs, woken), search (needs, woken), omega (arith, room c))
 
 count-requires : tie.Need-count-requires
 count-requires c κs = search needs
 
 cast-outcome : tie.Need-cast-outcome
-cast-outcome c = omega (arith, c .count .ensures, room (c .before .before))
+cast-outcome c =
+    let r = from-rest (c .before .before) .rouse in
+    omega (arith, c .count .ensures, good-short (r .result .woken) (r .ensures .woken .good), good-short (r .result .left) (r .ensures .left .good))
 
 push-requires : tie.Need-push-requires
 push-requires c κs =
@@ -68,7 +70,7 @@ returns c =
     (asked-by (s .args .condition) (omega arith) (roused .rouse .ensures))
     (rested .rest .ensures)
     (counted .before .append .ensures)
-    (counted .count .ensures)
+    (omega (arith, counted .count .ensures))
     (c .before .if1 .taken)
     (c .push .ensures)
 
@@ -97,7 +99,7 @@ returns-2 c =
     (asked-by (s .args .condition) (omega arith) (roused .rouse .ensures))
     (rested .rest .ensures)
     (counted .before .append .ensures)
-    (counted .count .ensures)
+    (omega (arith, counted .count .ensures))
     (c .before .if1 .left)
     (c .cons .ensures)
     (p .next)

@@ -3,7 +3,7 @@ use Prim.Native.Nat.{_<_}
 use native.Mathlib.Omega.{arith}
 use borrow.Author.Needs.{needs}
 use mathlib.Core.Logic.{⊎-elim}
-use mathlib.Core.Path.{refl}
+use mathlib.Core.Path.{refl, ap}
 use denote.Ref.{now}
 use lib.ListN.{length}
 use Rattle.queue.specs.List.{listOf}
@@ -42,43 +42,52 @@ first-requires c κs = some c
 worker : (c : tie.After-first Inv-loop μ-loop) → c .first .result < 8
 worker c = rouse-worker (c .before .before .before .loop .inv) (some (c .before)) (c .first .ensures)
 
+one-requires : tie.Need-one-requires Inv-loop μ-loop
+one-requires c κs = omega (arith, worker c)
+
 mul-if2 : tie.Need-mul-if2 Inv-loop μ-loop
-mul-if2 c = omega (arith, worker c)
+mul-if2 c = omega (arith, worker (c .before))
 
 element-copy-out-if2 : tie.Need-element-copy-out-if2 Inv-loop μ-loop
-element-copy-out-if2 c = omega (arith, worker c)
+element-copy-out-if2 c = omega (arith, worker (c .before))
 
 mul-fates : tie.Need-mul-fates Inv-loop μ-loop
-mul-fates c = omega (arith, worker (c .before .before))
+mul-fates c = omega (arith, worker (c .before .before .before))
 
 element-write-fates : tie.Need-element-write-fates Inv-loop μ-loop
-element-write-fates c = omega (arith, worker (c .before .before))
+element-write-fates c = omega (arith, worker (c .before .before .before))
 
-push-requires : tie.Need-push-requires Inv-loop μ-loop
-push-requires c κs =
-    let at = c .before .before .before .before .before .loop in
-    let h = some (c .before .before .before) in
-    (at .inv .chosen .kept, scan-room (at .inv .chosen) h, omega (arith, worker (c .before .before)))
+append-requires : tie.Need-append-requires Inv-loop μ-loop
+append-requires c κs =
+    let seen = c .before .before in
+    let at = seen .before .before .before .before .loop in
+    let one = seen .one .ensures in
+    let kept = at .inv .chosen .kept in
+    (search (needs, kept), search (needs, kept), omega (arith, ap length (one .list), scan-room (at .inv .chosen) (some (seen .before .before))))
 
-push-requires-2 : tie.Need-push-requires-2 Inv-loop μ-loop
-push-requires-2 c κs =
-    let at = c .before .before .before .before .before .loop in
-    let h = some (c .before .before .before) in
-    (at .inv .others .kept, scan-room (at .inv .others) h, omega (arith, worker (c .before .before)))
+append-requires-2 : tie.Need-append-requires-2 Inv-loop μ-loop
+append-requires-2 c κs =
+    let seen = c .before .before in
+    let at = seen .before .before .before .before .loop in
+    let one = seen .one .ensures in
+    let kept = at .inv .others .kept in
+    (search (needs, kept), search (needs, kept), omega (arith, ap length (one .list), scan-room (at .inv .others) (some (seen .before .before))))
 
 rest-requires : tie.Need-rest-requires Inv-loop μ-loop
-rest-requires c κs = (c .before .before .before .before .before .loop .inv .chosen .left, some (c .before .before .before))
+rest-requires c κs = let seen = c .before .before in (seen .before .before .before .before .loop .inv .chosen .left, some (seen .before .before))
 
 loop-less : tie.Need-loop-less Inv-loop μ-loop
-loop-less c = rest-less (c .before .before .before .before .before .before .loop .unseen) (some (c .before .before .before .before)) (c .rest .ensures)
+loop-less c = let seen = c .before .before .before in rest-less (seen .before .before .before .before .loop .unseen) (some (seen .before .before)) (c .rest .ensures)
 
 loop-again : tie.Need-loop-again Inv-loop μ-loop
 loop-again c =
-    let at = c .before .before .before .before .before .before .loop in
-    let v = c .before .before .before .first .ensures in
-    let h = some (c .before .before .before .before) in
-    ⊎-elim (λ z. rouse-wake (at .inv) h v (c .rest .ensures) (z .0 .taken) (z .2) (z .1 .ensures) (z .3) (z .4))
-    (λ z. rouse-leave (at .inv) h v (c .rest .ensures) (z .0 .left) (z .2) (z .3) (z .1 .ensures) (z .4))
+    let seen = c .before .before .before in
+    let at = seen .before .before .before .before .loop in
+    let v = seen .before .first .ensures in
+    let one = seen .one .ensures .list in
+    let h = some (seen .before .before) in
+    ⊎-elim (λ z. rouse-wake (at .inv) h v (c .rest .ensures) (z .0 .taken) (z .2) (rw one at (z .1 .ensures)) (z .3) (z .4))
+    (λ z. rouse-leave (at .inv) h v (c .rest .ensures) (z .0 .left) (z .2) (z .3) (rw one at (z .1 .ensures)) (z .4))
     (c .before .if2 .came)
 
 returns : tie.Need-returns Inv-loop μ-loop
@@ -95,12 +104,13 @@ rouse-spec =
     loop-holds
     is-empty-requires
     first-requires
+    one-requires
     mul-if2
     element-copy-out-if2
     mul-fates
     element-write-fates
-    push-requires
-    push-requires-2
+    append-requires
+    append-requires-2
     rest-requires
     loop-less
     loop-again

@@ -1,12 +1,11 @@
 -- `decide` meets its contract: a broadcast by itself, every other step by its ruling. Assumes nothing.
 use borrow.Author.Needs.{needs}
-use mathlib.Core.Path.{_≡_, subst⁻¹}
-use Prim.Native.Nat.{ℕ}
+use native.Mathlib.Omega.{arith}
 use denote.Ref.{now}
 use Rattle.protocol.specs.Rounds.{broadcastRule}
 use Rattle.queue.specs.List.{listOf}
 use Rattle.rules.specs.Codes.{conditionCode}
-use Rattle.rules.specs.Rules.{found, RuledBy}
+use Rattle.rules.specs.Rules.{found}
 use Rattle.rules.proofs.Rulings.{by-broadcast}
 use Rattle.rules.proofs.decision.decide.Statement.{statement}
 use Rattle.rules.proofs.decision.decide.Tie as tie
@@ -20,7 +19,7 @@ returns c =
     let a = s .args in
     record {
       is = broadcastRule (found (now (a .fates)) (listOf (a .lists .waiting)) (conditionCode (a .number))) (a .held);
-      ruled = by-broadcast (c .before .before .if1 .taken) (a .number) (a .held) (now (a .sizes)) (a .lists .waiting) (now (a .fates));
+      ruled = by-broadcast (omega (arith, c .before .before .if1 .taken)) (a .number) (a .held) (now (a .sizes)) (a .lists .waiting) (now (a .fates));
       carried = c .broadcast .ensures;
     }
 
