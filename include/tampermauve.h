@@ -27,9 +27,9 @@ extern "C" {
 /* ---- The version of the library that this header fits. */
 
 #define TAMPERMAUVE_VERSION_MAJOR 1
-#define TAMPERMAUVE_VERSION_MINOR 1
+#define TAMPERMAUVE_VERSION_MINOR 2
 #define TAMPERMAUVE_VERSION_PATCH 0
-#define TAMPERMAUVE_VERSION "1.1.0"
+#define TAMPERMAUVE_VERSION "1.2.0"
 
 /* ---- What a call returns: refusal + 256 x index, where index is that of a record of the file, the plan record being 0.
  *      The index is 0 for the refusals 1, 11, 12 and 13. An accepted call returns 0. */
