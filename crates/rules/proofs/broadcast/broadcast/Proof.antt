@@ -3,7 +3,6 @@ use borrow.Author.Needs.{needs}
 use native.Mathlib.Omega.{arith}
 use Prim.Native.Nat.{_+_, _<_}
 use mathlib.Core.Path.{ap}
-use denote.Ref.{now}
 use lib.ListN.{length, length-append}
 use Rattle.queue.specs.List.{listOf}
 use Rattle.queue.proofs.Laws.{good-short, length-rest}
@@ -63,16 +62,9 @@ returns : tie.Need-returns
 returns c =
     let counted = c .before .before in
     let rested = counted .before .before in
-    let roused = from-rest rested in
-    let s = from-rouse roused in
-    let p = s .pre .1 in
-    gives-up (s .args .lists) (now (s .args .fates)) (s .args .condition) (s .args .h) (s .args .held) (p .size) (p .holder)
-    (asked-by (s .args .condition) (omega arith) (roused .rouse .ensures))
-    (rested .rest .ensures)
-    (counted .before .append .ensures)
-    (omega (arith, counted .count .ensures))
-    (c .before .if1 .taken)
-    (c .push .ensures)
+    let s = from-rouse (from-rest rested) in
+    gives-up (s .args .condition) (s .pre .1) (asked-by (s .args .condition) (omega arith) (from-rest rested .rouse .ensures)) (rested .rest .ensures)
+    (counted .before .append .ensures) (omega (arith, counted .count .ensures)) (c .before .if1 .taken) (c .push .ensures)
 
 cons-requires : tie.Need-cons-requires
 cons-requires c κs =
@@ -92,17 +84,9 @@ returns-2 : tie.Need-returns-2
 returns-2 c =
     let counted = c .before .before in
     let rested = counted .before .before in
-    let roused = from-rest rested in
-    let s = from-rouse roused in
-    let p = s .pre .1 in
-    runs-on (s .args .lists) (now (s .args .fates)) (s .args .condition) (s .args .h) (s .args .held) (p .size) (p .holder)
-    (asked-by (s .args .condition) (omega arith) (roused .rouse .ensures))
-    (rested .rest .ensures)
-    (counted .before .append .ensures)
-    (omega (arith, counted .count .ensures))
-    (c .before .if1 .left)
-    (c .cons .ensures)
-    (p .next)
+    let s = from-rouse (from-rest rested) in
+    runs-on (s .args .condition) (s .pre .1) (asked-by (s .args .condition) (omega arith) (from-rest rested .rouse .ensures)) (rested .rest .ensures)
+    (counted .before .append .ensures) (omega (arith, counted .count .ensures)) (c .before .if1 .left) (c .cons .ensures)
 
 pub broadcast-spec : {M : Type 1} → statement M
 broadcast-spec =
