@@ -9,8 +9,6 @@ use format::fates::AT_BARRIER;
 use format::limits::BARRIER_COUNT;
 use format::limits::WORKERS_LIMIT;
 use format::ops;
-ghost use mathlib.Core.Path.{_≡_};
-ghost use Rattle.protocol.specs.Ops.{opBroadcast};
 ghost use Rattle.rules.specs.Deciding.{Deciding, Decided};
 
 pub struct Decision {
@@ -20,34 +18,7 @@ pub struct Decision {
     pub lists: Lists,
 }
 
-// By its ruling, for every step but a broadcast.
-fn by_ruling(
-    op: u8,
-    number: u16,
-    h: usize,
-    held: u64,
-    sizes: &[u8; BARRIER_COUNT],
-    lists: Lists,
-    fates: &mut [u64; WORKERS_LIMIT],
-) -> Decision
-    requires { ⌜ Deciding op number h held lists (now fates) × (op ≡ opBroadcast → ⊥) ⌝ }
-    ensures { λ d. ⌜ Decided op number h held (now (sizes .entry)) lists (now (fates .entry)) d (now (fates .exit)) ⌝ }
-{
-    let waiting = lists.waiting;
-    let ruling = rule(op, number, held, sizes, waiting, fates);
-    let code = AT_BARRIER + 2 * (number as u64);
-    let after = moved(lists, ruling, h as u64, fates, code);
-    settle_fates(fates, ruling, h);
-    let bytes = ruling.bytes;
-    Decision {
-        bytes,
-        held: ruling.held,
-        outcome: ruling.outcome,
-        lists: after,
-    }
-}
-
-// Decides the step of the holder h with this op and number.
+// Decides the step of the holder h with this op and number: a broadcast by itself, every other one by its ruling.
 pub fn decide(
     op: u8,
     number: u16,
@@ -63,5 +34,16 @@ pub fn decide(
     if op == ops::BROADCAST {
         return broadcast(number as u64, h, held, lists, fates);
     }
-    by_ruling(op, number, h, held, sizes, lists, fates)
+    let waiting = lists.waiting;
+    let ruling = rule(op, number, held, sizes, waiting, fates);
+    let code = AT_BARRIER + 2 * (number as u64);
+    let after = moved(lists, ruling, h as u64, fates, code);
+    settle_fates(fates, ruling, h);
+    let bytes = ruling.bytes;
+    Decision {
+        bytes,
+        held: ruling.held,
+        outcome: ruling.outcome,
+        lists: after,
+    }
 }
