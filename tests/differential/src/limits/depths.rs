@@ -19,12 +19,16 @@ pub fn all() -> Vec<Limit> {
         .collect()
 }
 
+fn locked(count: usize, behind: &[Step]) -> Vec<Step> {
+    locked_over(2 * count as u16, count, behind)
+}
+
 /// So many locks and the steps behind them. Where there is room a store stands
 /// before the last lock, which must not commit it unless it is the only one.
-fn locked(count: usize, behind: &[Step]) -> Vec<Step> {
+fn locked_over(address: u16, count: usize, behind: &[Step]) -> Vec<Step> {
     let mut own = times(count, 32, count as u16 % 16);
     if own.len() + behind.len() < 128 {
-        own.insert(count - 1, step(18, 0, 2 * count as u16));
+        own.insert(count - 1, step(18, 0, address));
     }
     own.extend_from_slice(behind);
     own
@@ -45,15 +49,24 @@ fn failures(count: usize) -> Draft {
     draft(&[(7, 1)], steps)
 }
 
-/// A holder with a count wakes a worker and keeps the token; 127 locks leave
-/// room for one signal, fewer for one more, which wakes nobody.
+/// A holder with a count wakes workers and keeps the token; 127 locks leave
+/// room for one step, fewer for one more, which wakes nobody. What is stored
+/// before a signal or a broadcast alone is committed by nothing else: each
+/// worker has an address of its own.
 fn signals(count: usize) -> Draft {
     let waiter = vec![step(32, 0, 0), step(34, 0, 1), step(33, 0, 0)];
-    let behind = [[35, 36], [36, 35]].map(|[first, second]| {
-        let both = [step(first, 0, 1), step(second, 0, 2)];
-        locked(count, &both[..(128 - count).min(2)])
-    });
-    draft(&[], [vec![waiter; 2], behind.to_vec()].concat())
+    let mut workers = vec![waiter; 2];
+    let holders: [&[u8]; 4] = [&[35, 36], &[36, 35], &[35], &[36]];
+    for (ops, page) in holders.into_iter().zip(0..) {
+        let wakes = ops.iter().zip(1..).map(|(&op, c)| step(op, 0, c));
+        let behind: Vec<Step> = wakes.take(128 - count).collect();
+        workers.push(locked_over(
+            256 * page + 2 * count as u16 - 1,
+            count,
+            &behind,
+        ));
+    }
+    draft(&[], workers)
 }
 
 /// A worker waits with a count, is woken in the same round and unlocks as
