@@ -31,12 +31,12 @@ pub fn broadcasts(rng: &mut Rng) -> Draft {
         true => rng.between(80, 240),
         false => rng.between(2 * workers, 60),
     };
-    let mut ward = Ward::new(rng, workers, &sleepers);
+    let mut lists = Lists::new(rng, workers, &sleepers);
     for _ in 0..wanted {
-        ward.go_on();
+        lists.go_on();
     }
-    ward.close();
-    Draft::new(&[], ward.steps).asleep(&sleepers)
+    lists.close();
+    Draft::new(&[], lists.steps).asleep(&sleepers)
 }
 
 /// All others, in a third of the plans, or any number of them.
@@ -48,7 +48,7 @@ fn patience(rng: &mut Rng, workers: usize) -> usize {
 }
 
 /// The lists and queues as the steps written so far leave them.
-struct Ward<'a> {
+struct Lists<'a> {
     rng: &'a mut Rng,
     /// The conditions in use, and who waits on each.
     conditions: Vec<u16>,
@@ -62,13 +62,13 @@ struct Ward<'a> {
     asleep: Vec<usize>,
 }
 
-impl<'a> Ward<'a> {
+impl<'a> Lists<'a> {
     fn new(rng: &'a mut Rng, workers: usize, sleepers: &[u8]) -> Self {
         let first = rng.below(QUEUES);
         let used = rng.pick(&[1, 1, 2, 2, 3]);
         let condition = |place: usize| ((first + 3 * place) % QUEUES) as u16;
         let asleep: Vec<usize> = sleepers.iter().map(|&each| usize::from(each)).collect();
-        Ward {
+        Lists {
             conditions: (0..used).map(condition).collect(),
             waiting: vec![Vec::new(); used],
             patience: patience(rng, workers),
