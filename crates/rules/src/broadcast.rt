@@ -44,7 +44,7 @@ fn rouse(waiting: Queue, fates: &mut [u64; WORKERS_LIMIT], code: u64) -> Roused
     Roused { woken, left }
 }
 
-// The holder h's broadcast to a condition.
+// The holder h's broadcast to a condition. It keeps the token or gives it up, and is going in either case.
 pub fn broadcast(
     condition: u64,
     h: usize,

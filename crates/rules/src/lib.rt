@@ -1,4 +1,4 @@
-// The rules of the synchronising steps as data, and what they do to the lists and the fates.
+// The rules of the synchronising steps, as data but for the broadcast's, and what they do to the lists and the fates.
 pub mod broadcast;
 pub mod decision;
 pub mod fates;
