@@ -51,15 +51,16 @@ pub fn close_buffers(
     c: Counts,
     fates: &[u64; WORKERS_LIMIT],
     workers: u8,
+    sum: u32,
     log: &mut [u8],
     report: &mut [u8],
     work: &mut [u8],
 )
     requires { ⌜ Closing c workers (now log) (now report) ⌝ }
-    ensures { λ _. ⌜ Closed (listOf list) c (now (fates .entry)) workers (now (log .entry)) (now (log .exit)) (now (report .exit)) (now (work .entry)) (now (work .exit)) ⌝ }
+    ensures { λ _. ⌜ Closed (listOf list) c (now (fates .entry)) workers sum (now (log .entry)) (now (log .exit)) (now (report .exit)) (now (work .entry)) (now (work .exit)) ⌝ }
 {
     let end = end_of(list, fates, workers);
     clear_behind(log, c.records);
     words::clear(work);
-    write_report(report, end, workers, c, fates);
+    write_report(report, end, workers, c, fates, sum);
 }

@@ -14,6 +14,7 @@ use Rattle.protocol.specs.Steps as steps
 use Rattle.protocol.specs.Steps.{newWorker, fateAs, arrivedAs, stepAt}
 use Rattle.protocol.specs.Rounds.{State, workerAt, arrival, member}
 use Rattle.protocol.specs.Turns.{workersOf, allArrived, can, moveBy, move, noneLeft}
+use Rattle.protocol.specs.Sum.{noChange, changeBy, moveChange}
 use Rattle.protocol.specs.Demands.{occurs}
 use Rattle.protocol.proofs.Bools.{and-fails}
 use Rattle.protocol.proofs.Counting.{clash}
@@ -24,7 +25,7 @@ use Rattle.token.specs.Token.{arrivedCan}
 use Rattle.engine.specs.declared.state.Schedule.{Schedule}
 use Rattle.engine.specs.Kept.{Kept, kept}
 use Rattle.engine.specs.Refines.{awayIn, Refines}
-use Rattle.engine.specs.Moving.{Able, stateOf}
+use Rattle.engine.specs.Moving.{Able, stateOf, AfterMove}
 use Rattle.engine.proofs.CanMove.{cond-false, all-away, none-away, can-token, can-late, mark-set}
 use Rattle.engine.proofs.Parts.{bytes-moved, first-eqb}
 use Rattle.engine.proofs.Here.{inv, listed-here, known}
@@ -55,6 +56,7 @@ arrivedSchedule t away =
       lists = t .lists;
       away = away;
       counts = record { moves = t .counts .moves + 1; rounds = t .counts .rounds; records = t .counts .records };
+      sum = t .sum;
     }
 
 abbrev pub markedAs : Kept → List Bool → Kept
@@ -182,12 +184,18 @@ module _ {file sizes firsts : List ℕ} {w : ℕ} {t : Schedule} {k : Kept} (a :
         log = record { count = shows .log .count; bytes = shows .log .bytes; size = shows .log .size };
         moves = ap (λ (i : ℕ). i + 1) (shows .moves);
         rounds = shows .rounds;
+        sum = shows .sum;
       }
 
-  pub arrive-simulates : {away′ : ℕ} {can′ : List Bool} → away′ ≡ t .away - 1 → can′ ≡ arrivedCan (listOf (t .lists .list)) (t .away) w (k .can)
+  -- nothing is committed
+  no-change : moveChange (planOf file) s w ≡ noChange
+  unfolding moveChange
+  no-change = ap (λ (q : Step). changeBy (planOf file) q (workerAt s w .arrived) w s) step ∙ ap (λ (b : Bool). changeBy (planOf file) (sync y) b w s) late
+
+  simulated : {away′ : ℕ} {can′ : List Bool} → away′ ≡ t .away - 1 → can′ ≡ arrivedCan (listOf (t .lists .list)) (t .away) w (k .can)
       → Refines (workersOf (planOf file)) (move (planOf file) s w) (arrivedSchedule t away′) (markedAs k can′)
   unfolding move
-  arrive-simulates {away′} {can′} same marks′ =
+  simulated {away′} {can′} same marks′ =
       subst⁻¹ (λ (i : ℕ). Shown i can′) same
       (subst⁻¹ (λ (bs : List Bool). Shown (t .away - 1) bs) (marks′ ∙ ap (λ (ws : List ℕ). arrivedCan ws (t .away) w (k .can)) (a .refines .lists .list .list))
       (subst⁻¹ (λ (q : State). Refines (workersOf (planOf file)) q (arrivedSchedule t (t .away - 1)) (markedAs k marks))
@@ -196,3 +204,7 @@ module _ {file sizes firsts : List ℕ} {w : ℕ} {t : Schedule} {k : Kept} (a :
     where
       Shown : ℕ → List Bool → Type 0
       Shown i bs = Refines (workersOf (planOf file)) (move (planOf file) s w) (arrivedSchedule t i) (markedAs k bs)
+
+  pub arrive-simulates : {away′ : ℕ} {can′ : List Bool} → away′ ≡ t .away - 1 → can′ ≡ arrivedCan (listOf (t .lists .list)) (t .away) w (k .can)
+      → AfterMove (planOf file) s w t (arrivedSchedule t away′) (markedAs k can′)
+  arrive-simulates same marks′ = record { refines = simulated same marks′; moved = rw no-change (omega arith) }

@@ -9,16 +9,18 @@ use lib.Dec.{eqb}
 use lib.ListN.{length, getD, set, take, drop, length-append, length-set}
 use lib.Seq.{getD-set-same, getD-set-other}
 use borrow.Author.Tests.{eq-eqb, ne-eqb}
-use Rattle.protocol.specs.Format.{workersLimit, sync, Sync, planOf}
+use Rattle.protocol.specs.Format.{workersLimit, Step, sync, Sync, planOf}
 use Rattle.protocol.specs.Pages.{Copies}
 use Rattle.protocol.specs.Steps as steps
 use Rattle.protocol.specs.Steps.{going, newWorker, fateAs, stepAt}
 use Rattle.protocol.specs.Rounds.{State, workerAt, Ruling, memoryAfter, copiesAfter, fateAfter, arrivedAfter, afterRuling, staysIn, joinsNext, joinsWaiting, member}
 use Rattle.protocol.specs.Rounds.{without, freed, entryOf, apply, newRound}
 use Rattle.protocol.specs.Turns.{workersOf, isFirst, closing, closed, move}
+use Rattle.protocol.specs.Sum.{sumOf, Change, movedBy, settledChange, changeBy, moveChange}
 use Rattle.protocol.specs.Report.{entryLength, logBytes}
 use Rattle.protocol.specs.Calls.{workLength, memoryLength, logLength}
 use Rattle.protocol.proofs.Counting.{freed-length, freed-at}
+use Rattle.protocol.proofs.Sums.{move-moves}
 use Rattle.pages.specs.Copies.{copiesIn, slotCount}
 use Rattle.worker.specs.Private.{viewed, heldAs}
 use Rattle.worker.specs.declared.Worker.{Worker}
@@ -32,7 +34,7 @@ use Rattle.token.specs.declared.Round.{Round}
 use Rattle.engine.specs.declared.state.Schedule.{Schedule}
 use Rattle.engine.specs.Kept.{Kept, kept, privateOf}
 use Rattle.engine.specs.Refines.{SameBytes, SameLog, Refines}
-use Rattle.engine.specs.Moving.{Able, stateOf}
+use Rattle.engine.specs.Moving.{Able, stateOf, AfterMove}
 use Rattle.engine.proofs.CanMove.{can-token, mark-set}
 use Rattle.engine.proofs.Parts.{bytes-moved, scheduled, RoundTurned, turned-over}
 use Rattle.engine.proofs.Facts.{Holder, ruleAt, applied, hold-core, hold-arrived, hold-move}
@@ -44,7 +46,7 @@ heldKept k w v fates can copied memory log =
     kept (set (k .places) w (v .place)) (set (k .held) w (v .held)) (k .registers) fates can copied memory log (k .work)
 
 -- what the code leaves of the holder's step, ruled by R
-pub record StepDone (s : State) (w : ℕ) (y : Sync) (R : Ruling) (t : Schedule) (k : Kept) (v : Worker) (ls : Lists) (r : Round) (fates′ : List ℕ) (can′ copied′ : List Bool)
+pub record StepDone (s : State) (w : ℕ) (y : Sync) (R : Ruling) (t : Schedule) (k : Kept) (v : Worker) (ls : Lists) (r : Round) (sum′ : ℕ) (fates′ : List ℕ) (can′ copied′ : List Bool)
     (memory′ log′ : List ℕ) : Type 0 where
   pub lists : ListsMoved (t .lists) R w ls
   pub worker : v ≡ heldAs (privateOf k w) (R .held)
@@ -52,6 +54,7 @@ pub record StepDone (s : State) (w : ℕ) (y : Sync) (R : Ruling) (t : Schedule)
   pub fates : (u : ℕ)
       → getD fates′ u 0 ≡ cond (eqb u w) (fateCode (fateAfter (R .goes))) (cond (member u (R .wakes ++ R .joins)) 0 (getD (k .fates) u 0))
   pub shared : memory′ ≡ memoryAfter (R .bytes) (copiesIn (k .copied) (k .work) w) (k .memory)
+  pub moved : sum′ ≡ movedBy (settledChange (R .bytes) (copiesIn (k .copied) (k .work) w) (k .memory)) (t .sum)
   pub mine : copiesIn copied′ (k .work) w ≡ copiesAfter (R .bytes) (copiesIn (k .copied) (k .work) w)
   pub others : (u : ℕ) → (u ≡ w → ⊥) → copiesIn copied′ (k .work) u ≡ copiesIn (k .copied) (k .work) u
   pub memorySize : length memory′ ≡ memoryLength
@@ -83,8 +86,8 @@ closing-moves s (w ∷ ws) = refl
 
 module _ {file sizes firsts : List ℕ} {w : ℕ} {t : Schedule} {k : Kept} (a : Able file sizes firsts w t k) (near : t .away ≡ 0)
     {y : Sync} (step : stepAt (planOf file) w (workerAt (stateOf a) w .place) ≡ sync y)
-    {v : Worker} {ls : Lists} {r : Round} {fates′ : List ℕ} {can′ copied′ : List Bool} {memory′ log′ : List ℕ}
-    (done : StepDone (stateOf a) w y (ruleAt (planOf file) (stateOf a) w y) t k v ls r fates′ can′ copied′ memory′ log′) where
+    {v : Worker} {ls : Lists} {r : Round} {sum′ : ℕ} {fates′ : List ℕ} {can′ copied′ : List Bool} {memory′ log′ : List ℕ}
+    (done : StepDone (stateOf a) w y (ruleAt (planOf file) (stateOf a) w y) t k v ls r sum′ fates′ can′ copied′ memory′ log′) where
   abbrev s : State
   s = stateOf a
 
@@ -205,22 +208,37 @@ module _ {file sizes firsts : List ℕ} {w : ℕ} {t : Schedule} {k : Kept} (a :
   unfolding apply
   round = a .refines .rounds
 
-  turned : RoundTurned (workersOf (planOf file)) (closed after) ls r (heldCounts t r) k′
+  turned : RoundTurned (workersOf (planOf file)) (closed after) ls r (heldCounts t r) sum′ k′
   turned =
-      turned-over (planOf file) after ls r (heldCounts t r) w (t .counts .rounds) (k .can) k′ (hold-core (planOf file) s (inv a .core) w y h step)
+      turned-over (planOf file) after ls r (heldCounts t r) sum′ w (t .counts .rounds) (k .can) k′ (hold-core (planOf file) s (inv a .core) w y h step)
       (hold-arrived (planOf file) s (inv a .core) w y h step) list next waiting fates down (a .refines .entries .can) round (done .over)
 
   logged : SameLog after (t .counts .records + 1) log′
   unfolding apply
   logged = record { count = length-append (s .log) _ ∙ ap (λ (i : ℕ). i + 1) (a .refines .log .count); bytes = done .entry; size = done .logSize }
 
-  moved : after .moves ≡ t .counts .moves + 1
+  counted : after .moves ≡ t .counts .moves + 1
   unfolding apply
-  moved = ap (λ (i : ℕ). i + 1) (a .refines .moves)
+  counted = ap (λ (i : ℕ). i + 1) (a .refines .moves)
 
-  pub hold-simulates : Refines (workersOf (planOf file)) (move (planOf file) s w) (scheduled ls r (heldCounts t r)) k′
-  hold-simulates =
-      subst⁻¹ (λ (x : State). Refines (workersOf (planOf file)) x (scheduled ls r (heldCounts t r)) k′)
+  -- the sum: the step's change is that of the ruling
+  own-change : moveChange (planOf file) s w ≡ settledChange (R .bytes) (copiesIn (k .copied) (k .work) w) (k .memory)
+  unfolding moveChange
+  own-change =
+      ap (λ (q : Step). changeBy (planOf file) q (workerAt s w .arrived) w s) step
+      ∙ ap (λ (b : Bool). changeBy (planOf file) (sync y) b w s) (h .arrived)
+      ∙ ap (λ (x : steps.Worker). settledChange (R .bytes) (x .copies) (s .memory)) view
+      ∙ ap (λ (m : List ℕ). settledChange (R .bytes) (copiesIn (k .copied) (k .work) w) m) (a .refines .bytes .shared)
+
+  moved : sum′ ≡ movedBy (moveChange (planOf file) s w) (t .sum)
+  moved = done .moved ∙ ap (λ (c : Change). movedBy c (t .sum)) (sym own-change)
+
+  afresh : sum′ ≡ sumOf (move (planOf file) s w .memory)
+  afresh = moved ∙ ap (movedBy (moveChange (planOf file) s w)) (a .refines .sum) ∙ sym (move-moves (planOf file) s w)
+
+  simulated : Refines (workersOf (planOf file)) (move (planOf file) s w) (scheduled ls r (heldCounts t r) sum′) k′
+  simulated =
+      subst⁻¹ (λ (x : State). Refines (workersOf (planOf file)) x (scheduled ls r (heldCounts t r) sum′) k′)
       (hold-move (planOf file) s (inv a .core) w y h step)
       record {
         entries =
@@ -234,6 +252,10 @@ module _ {file sizes firsts : List ℕ} {w : ℕ} {t : Schedule} {k : Kept} (a :
         bytes = closing-bytes (after .list) bytes;
         lists = turned .lists;
         log = closing-log (after .list) logged;
-        moves = closing-moves after (after .list) ∙ moved;
+        moves = closing-moves after (after .list) ∙ counted;
         rounds = turned .rounds;
+        sum = afresh ∙ ap (λ (x : State). sumOf (x .memory)) (hold-move (planOf file) s (inv a .core) w y h step);
       }
+
+  pub hold-simulates : AfterMove (planOf file) s w t (scheduled ls r (heldCounts t r) sum′) k′
+  hold-simulates = record { refines = simulated; moved = moved }

@@ -8,7 +8,8 @@ use lib.ListN.{length, getD, drop, take}
 use lib.Seq.{sets, length-sets}
 use Rattle.protocol.specs.Format.{workersLimit, Plan, Sync, sync, planOf}
 use Rattle.protocol.specs.Steps.{onCondition, atBarrier, stepAt}
-use Rattle.protocol.specs.Turns.{workersOf, move}
+use Rattle.protocol.specs.Turns.{workersOf}
+use Rattle.protocol.specs.Sum.{movedBy, settledChange}
 use Rattle.protocol.specs.Report.{entryLength, entryBytes, logBytes}
 use Rattle.protocol.specs.Rounds as rounds
 use Rattle.protocol.specs.Rounds.{State, workerAt, queueOf, fateIn, ruleOf, apply, member, staysIn, joinsNext, memoryAfter, copiesAfter, opOf, operandOf, Entry, entryOf}
@@ -32,9 +33,8 @@ use Rattle.moves.proofs.Owned.{sync-kind}
 use Rattle.engine.specs.declared.state.Schedule.{Schedule}
 use Rattle.rules.specs.declared.decision.Decision.{Decision}
 use Rattle.engine.specs.Kept.{Kept, privateOf}
-use Rattle.engine.specs.Refines.{Refines}
 use Rattle.engine.specs.Holding.{BytesSettled}
-use Rattle.engine.specs.Moving.{stateOf, Syncing}
+use Rattle.engine.specs.Moving.{stateOf, Syncing, AfterMove}
 use Rattle.engine.proofs.Facts as facts
 use Rattle.engine.proofs.Facts.{Holder, ruleAt, applied, hold-core, list-known, next-known}
 use Rattle.engine.proofs.Here as here
@@ -145,7 +145,7 @@ module _ {r : Record} {w : ℕ} {t : Schedule} {sizes : List ℕ} {k : Kept} (h 
 
       -- what the parts leave shows the state after the move
       module _ {v : Worker} (same-worker : v ≡ heldAs (privateOf k w) (d .held))
-          {memory′ : List ℕ} {copied′ : List Bool} (b : BytesSettled (d .bytes) w (k .memory) (k .copied) (k .work) memory′ copied′)
+          {memory′ : List ℕ} {copied′ : List Bool} {sum′ : ℕ} (b : BytesSettled (d .bytes) w (t .sum) (k .memory) (k .copied) (k .work) sum′ memory′ copied′)
           {outcome : ℕ} (same-outcome : outcome ≡ d .outcome) {records′ : ℕ} {log′ : List ℕ} (counted : records′ ≡ t .counts .records + 1)
           (l : log′ ≡ sets (k .log) (entryLength * t .counts .records) (entryBytes (entryAs (t .counts .rounds + 1) w (r .op) (r .number) outcome)))
           {o : Round} {can′ : List Bool} (turned : TurnedOver (d .lists .list) (d .lists .next) w (t .counts .rounds) (k .can) o can′) where
@@ -160,7 +160,7 @@ module _ {r : Record} {w : ℕ} {t : Schedule} {sizes : List ℕ} {k : Kept} (h 
             ∙ (ap (λ (i : ℕ). entryAs (s .rounds + 1) w (opOf y) i outcome) (sym (operand-sync (r .op) (r .number) (q .least) (q .most) (in-range .exit)))
             ∙ ap (λ (i : ℕ). entryAs (s .rounds + 1) w (opOf y) (operandOf y) i) (same-outcome ∙ (x .carried .outcome ∙ ap (λ (q : rounds.Ruling). q .outcome) ruled))))
 
-        done : StepDone s w y R t k v (d .lists) o fates′ can′ copied′ memory′ log′
+        done : StepDone s w y R t k v (d .lists) o sum′ fates′ can′ copied′ memory′ log′
         done =
             let shows = h .here .refines in
             let settled = subst (λ (q : rounds.Ruling). FatesSettled (k .fates) q w fates′) ruled (x .carried .settled) in
@@ -171,6 +171,7 @@ module _ {r : Record} {w : ℕ} {t : Schedule} {sizes : List ℕ} {k : Kept} (h 
               fateCount = settled .size;
               fates = settled .code;
               shared = b .shared ∙ ap (λ (i : rounds.Uncommitted). memoryAfter i (copiesIn (k .copied) (k .work) w) (k .memory)) bytes;
+              moved = b .moved ∙ ap (λ (i : rounds.Uncommitted). movedBy (settledChange i (copiesIn (k .copied) (k .work) w) (k .memory)) (t .sum)) bytes;
               mine = b .mine ∙ ap (λ (i : rounds.Uncommitted). copiesAfter i (copiesIn (k .copied) (k .work) w)) bytes;
               others = b .others;
               memorySize = b .size ∙ shows .bytes .sizes .memoryLength;
@@ -185,6 +186,6 @@ module _ {r : Record} {w : ℕ} {t : Schedule} {sizes : List ℕ} {k : Kept} (h 
 
         -- with the log's records counted by the mark that the writer gives, and the moves however the code counts them
         pub shown : {moves′ : ℕ} → moves′ ≡ t .counts .moves + 1
-            → Refines (workersOf plan) (move plan s w) (scheduled (d .lists) o (record { moves = moves′; rounds = o .rounds; records = records′ }))
+            → AfterMove plan s w t (scheduled (d .lists) o (record { moves = moves′; rounds = o .rounds; records = records′ }) sum′)
             (heldKept k w v fates′ can′ copied′ memory′ log′)
         shown once = rw (once, counted) (hold-simulates (h .here) near step done)

@@ -124,6 +124,7 @@ module _ {file sizes firsts : List ℕ} {w : ℕ} {t : Schedule} {k : Kept} (a :
         log = record { count = shows .log .count; bytes = shows .log .bytes; size = shows .log .size };
         moves = ap (λ (i : ℕ). i + 1) (shows .moves);
         rounds = shows .rounds;
+        sum = shows .sum;
       }
 
   pub own-simulates : Refines (workersOf (planOf file)) (move (planOf file) s w) (movesAs t (t .counts .moves + 1)) k′

@@ -57,12 +57,12 @@ bytes-moved {n} {w} {s} {s′} {k} {k′} b shared sizes marks mine others recor
         (as-viewed (privateOf k u) (others u ne ∙ ap (λ (x : steps.Worker). fateAs (workerAt s′ u .fate) x) (b .worker u l))))
 
 -- the schedule behind a holder's step, whose round goes on or is the next
-abbrev pub scheduled : Lists → Round → Counts → Schedule
-scheduled lists r counts =
-    record { lists = record { list = r .list; next = r .next; waiting = lists .waiting }; away = r .away; counts = counts }
+abbrev pub scheduled : Lists → Round → Counts → ℕ → Schedule
+scheduled lists r counts sum =
+    record { lists = record { list = r .list; next = r .next; waiting = lists .waiting }; away = r .away; counts = counts; sum = sum }
 
-pub record RoundTurned (n : ℕ) (s : State) (ls : Lists) (r : Round) (counts : Counts) (k : Kept) : Type 0 where
-  pub lists : SameLists n s (scheduled ls r counts) k
+pub record RoundTurned (n : ℕ) (s : State) (ls : Lists) (r : Round) (counts : Counts) (sum : ℕ) (k : Kept) : Type 0 where
+  pub lists : SameLists n s (scheduled ls r counts sum) k
   pub marks : length (k .can) ≡ workersLimit
   pub rounds : s .rounds ≡ r .rounds
 
@@ -70,7 +70,7 @@ pub first-eqb : (u : ℕ) (ws : List ℕ) → noneLeft ws ≡ false → isFirst 
 first-eqb u [] e = clash (sym e)
 first-eqb u (w ∷ ws) e = refl
 
-module _ (plan : Plan) (s : State) (lists : Lists) (r : Round) (counts : Counts) (w rounds : ℕ) (marks : List Bool) (k : Kept)
+module _ (plan : Plan) (s : State) (lists : Lists) (r : Round) (counts : Counts) (sum w rounds : ℕ) (marks : List Bool) (k : Kept)
     (c : Core plan s) (all : allArrived s (s .list) ≡ true)
     (list : Holds (lists .list) (s .list)) (next : Holds (lists .next) (s .next)) (waiting : Holds (lists .waiting) (s .waiting))
     (fates : (u : ℕ) → u < workersOf plan → getD (k .fates) u 0 ≡ fateCode (workerAt s u .fate))
@@ -79,7 +79,7 @@ module _ (plan : Plan) (s : State) (lists : Lists) (r : Round) (counts : Counts)
   marked : length (set marks w false) ≡ workersLimit
   marked = length-set marks w false ∙ count
 
-  same-round : SameRound (lists .list) (lists .next) w rounds marks r (k .can) → noneLeft (s .list) ≡ false → RoundTurned (workersOf plan) s lists r counts k
+  same-round : SameRound (lists .list) (lists .next) w rounds marks r (k .can) → noneLeft (s .list) ≡ false → RoundTurned (workersOf plan) s lists r counts sum k
   same-round g some =
       record {
         lists = record {
@@ -109,7 +109,7 @@ module _ (plan : Plan) (s : State) (lists : Lists) (r : Round) (counts : Counts)
   fresh : (u : ℕ) → member u (s .next) ≡ true → workerAt s u .arrived ≡ false
   fresh u m = c .stands u .fresh (member-some u (s .next) m)
 
-  next-round : NewRound (lists .next) w rounds marks r (k .can) → RoundTurned (workersOf plan) (newRound s) lists r counts k
+  next-round : NewRound (lists .next) w rounds marks r (k .can) → RoundTurned (workersOf plan) (newRound s) lists r counts sum k
   unfolding newRound
   next-round g =
       record {
@@ -132,9 +132,9 @@ module _ (plan : Plan) (s : State) (lists : Lists) (r : Round) (counts : Counts)
           ∙ or-fails (member u (s .next)) (down u l)
           ∙ sym (can-fence (newRound s) u fresh)
 
-  pub turned-over : RoundTurned (workersOf plan) (closed s) lists r counts k
+  pub turned-over : RoundTurned (workersOf plan) (closed s) lists r counts sum k
   turned-over = go (s .list) refl
     where
-      go : (ws : List ℕ) → s .list ≡ ws → RoundTurned (workersOf plan) (closing ws s) lists r counts k
+      go : (ws : List ℕ) → s .list ≡ ws → RoundTurned (workersOf plan) (closing ws s) lists r counts sum k
       go [] e = next-round (over .ends (ap noneLeft (list .list ∙ e)))
       go (v ∷ vs) e = same-round (over .goes (ap noneLeft (list .list ∙ e))) (ap noneLeft e)

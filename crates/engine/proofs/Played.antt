@@ -12,6 +12,7 @@ use Rattle.protocol.specs.Turns.{workersOf, turn, play, noneLeft}
 use Rattle.protocol.specs.Calls.{playedFrom}
 use Rattle.protocol.proofs.Laws.{start-inv}
 use Rattle.protocol.proofs.Obeys.{rest-passes}
+use Rattle.protocol.proofs.Sums.{sum-kept}
 use Rattle.plan.specs.declared.decode.Record.{Record}
 use Rattle.queue.specs.List.{listOf}
 use Rattle.engine.specs.declared.state.Schedule.{Schedule}
@@ -30,11 +31,11 @@ pub record PlayedSoFar (file turns start : List ℕ) (i : ℕ) (t : Schedule) (k
 
 over : {file turns start : List ℕ} {t : Schedule} {k : Kept} → Refines (workersOf (planOf file)) (playedFrom (planOf file) start turns) t k
     → Over file turns start (record { schedule = t; fates = k .fates }) (k .memory) (k .log) (k .work)
-over {k = k} shows =
-    record { places = k .places; held = k .held; registers = k .registers; can = k .can; copied = k .copied; refines = shows }
+over {file} {turns} {start} {k = k} shows =
+    record { places = k .places; held = k .held; registers = k .registers; can = k .can; copied = k .copied; refines = shows; moved = shows .sum ∙ sym (sum-kept (planOf file) start turns) }
 
 module _ {file : List ℕ} {n : ℕ} {sizes firsts first turns memory log work : List ℕ} (p : Playing file n sizes firsts first turns memory log work) where
-  pub begins : {t : Schedule} {can : List Bool} → RoundBegun n first (replicate workersLimit false) t can
+  pub begins : {t : Schedule} {can : List Bool} → RoundBegun n first (replicate workersLimit false) memory t can
       → PlayedSoFar file turns memory 0 t (startKept first can memory log work)
   unfolding play planIn
   begins {t} {can} begun =
@@ -42,7 +43,7 @@ module _ {file : List ℕ} {n : ℕ} {sizes firsts first turns memory log work :
         within = omega arith;
         refines =
             start-refines (planOf file) first memory log work (plan-sound (p .named) .workers) (p .fates)
-            (subst (λ (i : ℕ). RoundBegun i first (replicate workersLimit false) t can) (p .workers) begun)
+            (subst (λ (i : ℕ). RoundBegun i first (replicate workersLimit false) memory t can) (p .workers) begun)
             (p .bytes)
             (p .room);
       }
@@ -82,7 +83,7 @@ module _ {file : List ℕ} {n : ℕ} {sizes firsts first turns memory log work :
 
       pub synced : {t′ : Schedule} {k′ : Kept} → Synced r (getD turns i 0) t sizes k t′ k′ → PlayedSoFar file turns memory (i + 1) t′ k′
       unfolding syncing able-here
-      synced done = record { within = omega arith; refines = moved (p .named) memory i l (s .refines) (stop .able) (done syncing) }
+      synced done = record { within = omega arith; refines = moved (p .named) memory i l (s .refines) (stop .able) (done syncing .refines) }
 
     -- where the list is empty the plan has ended
     pub ends-here : {b : Bool} → b ≡ noneLeft (listOf (t .lists .list)) → b ≡ true

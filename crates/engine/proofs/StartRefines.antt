@@ -41,7 +41,7 @@ abbrev pub startKept : (fates : List ℕ) (can : List Bool) (memory log work : L
 startKept fates can memory log work = kept none none none fates can (replicate slotCount false) memory log work
 
 module _ (plan : Plan) {t : Schedule} {marks : List Bool} (fates memory log work : List ℕ) (few : workersOf plan ≤ workersLimit)
-    (first : FirstFates (plan .sleepers) fates) (begun : RoundBegun (workersOf plan) fates (replicate workersLimit false) t marks)
+    (first : FirstFates (plan .sleepers) fates) (begun : RoundBegun (workersOf plan) fates (replicate workersLimit false) memory t marks)
     (sizes : Lent memory work) (room : length log ≡ logLength) where
   abbrev k : Kept
   k = startKept fates marks memory log work
@@ -120,4 +120,5 @@ module _ (plan : Plan) {t : Schedule} {marks : List Bool} (fates memory log work
         };
         moves = sym (begun .moves);
         rounds = sym (begun .rounds);
+        sum = begun .sum;
       }

@@ -5,10 +5,11 @@ use mathlib.Core.Path.{_≡_}
 use mathlib.Core.List.{List}
 use lib.ListN.{getD}
 use Rattle.protocol.specs.Ops.{opLock}
-use Rattle.protocol.specs.Format.{workersLimit, barrierCount, planOf, records, sizeIn, firstIn}
+use Rattle.protocol.specs.Format.{workersLimit, barrierCount, Plan, planOf, records, sizeIn, firstIn}
 use Rattle.protocol.specs.Refusals.{check, accepted}
 use Rattle.protocol.specs.Rounds.{State}
 use Rattle.protocol.specs.Turns.{workersOf, can, move}
+use Rattle.protocol.specs.Sum.{movedBy, moveChange}
 use Rattle.protocol.specs.Calls.{playedFrom}
 use Rattle.plan.specs.declared.decode.Record.{Record}
 use Rattle.moves.specs.Moves.{fetchedAs}
@@ -41,7 +42,10 @@ pub record Syncing (r : Record) (w : ℕ) (t : Schedule) (sizes : List ℕ) (k :
   pub fetched : r ≡ fetchedAs file (getD firsts w 0) (getD firsts (w + 1) 0) (getD (k .places) w 0)
   pub late : opLock ≤ r .op
 
--- the values show the state after its move
+-- the values show the state after a worker's move, and the sum is moved by as much as the move's commit says
+pub record AfterMove (plan : Plan) (s : State) (w : ℕ) (t t′ : Schedule) (k′ : Kept) : Type 0 where
+  pub refines : Refines (workersOf plan) (move plan s w) t′ k′
+  pub moved : t′ .sum ≡ movedBy (moveChange plan s w) (t .sum)
+
 abbrev pub Synced : (r : Record) (w : ℕ) (t : Schedule) (sizes : List ℕ) (k : Kept) → Schedule → Kept → Type 0
-Synced r w t sizes k t′ k′ =
-    (h : Syncing r w t sizes k) → Refines (workersOf (planOf (h .file))) (move (planOf (h .file)) (stateOf (h .here)) w) t′ k′
+Synced r w t sizes k t′ k′ = (h : Syncing r w t sizes k) → AfterMove (planOf (h .file)) (stateOf (h .here)) w t t′ k′

@@ -7,6 +7,7 @@ use lib.ListN.{length, getD, take}
 use Rattle.protocol.specs.Format.{workersLimit}
 use Rattle.protocol.specs.Rounds.{State, workerAt}
 use Rattle.protocol.specs.Turns.{can}
+use Rattle.protocol.specs.Sum.{sumOf}
 use Rattle.protocol.specs.Report.{entryLength, logBytes}
 use Rattle.protocol.specs.Calls.{logLength}
 use Rattle.pages.specs.Copies.{Lent, copiesIn, slotCount}
@@ -62,3 +63,5 @@ pub record Refines (n : ℕ) (s : State) (t : Schedule) (k : Kept) : Type 0 wher
   pub log : SameLog s (t .counts .records) (k .log)
   pub moves : s .moves ≡ t .counts .moves
   pub rounds : s .rounds ≡ t .counts .rounds
+  -- the sum that is kept is the sum afresh
+  pub sum : t .sum ≡ sumOf (s .memory)

@@ -8,7 +8,8 @@ use lib.ListN.{length, getD, take}
 use Rattle.protocol.specs.Ops.{opLock}
 use Rattle.protocol.specs.Format.{upTo, records, sleepersIn, planOf}
 use Rattle.protocol.specs.Rounds.{keep}
-use Rattle.protocol.specs.Turns.{workersOf}
+use Rattle.protocol.specs.Turns.{workersOf, start as begin}
+use Rattle.protocol.specs.Sum.{sumOf, keptSum}
 use Rattle.protocol.specs.Calls.{logLength, turnsLimit, namesNobody, playedFrom}
 use Rattle.format.specs.Fates.{codeGoing}
 use Rattle.plan.specs.Sleeping.{FirstFates}
@@ -33,7 +34,12 @@ pub record Named (file sizes firsts turns : List ℕ) : Type 0 where
 -- the schedule with so many moves
 abbrev pub movesAs : Schedule → ℕ → Schedule
 movesAs t moves =
-    record { lists = t .lists; away = t .away; counts = record { moves = moves; rounds = t .counts .rounds; records = t .counts .records } }
+    record {
+      lists = t .lists;
+      away = t .away;
+      counts = record { moves = moves; rounds = t .counts .rounds; records = t .counts .records };
+      sum = t .sum;
+    }
 
 -- the values show the state after the first i turns, so many of which have moved, whatever the schedule, the fates and the log are
 pub record Turning (file firsts turns : List ℕ) (i made : ℕ) (k : List ℕ → List ℕ → Kept) : Type 0 where
@@ -67,7 +73,7 @@ abbrev pub awake : ℕ → List ℕ → List ℕ
 awake n fates = keep (λ w. eqb (getD fates w 0) codeGoing) (upTo n)
 
 -- the schedule of round 1, and who can move
-pub record RoundBegun (n : ℕ) (fates : List ℕ) (can : List Bool) (t : Schedule) (can′ : List Bool) : Type 0 where
+pub record RoundBegun (n : ℕ) (fates : List ℕ) (can : List Bool) (memory : List ℕ) (t : Schedule) (can′ : List Bool) : Type 0 where
   pub list : Holds (t .lists .list) (awake n fates)
   pub next : Holds (t .lists .next) []
   pub waiting : Holds (t .lists .waiting) []
@@ -75,6 +81,7 @@ pub record RoundBegun (n : ℕ) (fates : List ℕ) (can : List Bool) (t : Schedu
   pub moves : t .counts .moves ≡ 0
   pub rounds : t .counts .rounds ≡ 0
   pub records : t .counts .records ≡ 0
+  pub sum : t .sum ≡ sumOf memory
   pub marks : can′ ≡ raised (awake n fates) can
 
 -- what a list of turns takes: buffers of their lengths, turns that name the n workers of an accepted file, and the codes of their fates at first
@@ -85,7 +92,7 @@ pub record Playing (file : List ℕ) (n : ℕ) (sizes firsts first turns memory 
   pub bytes : Lent memory work
   pub room : length log ≡ logLength
 
--- the values at the end show the state after the turns
+-- the values at the end show the state after the turns, and the sum is what the commits of the turns have made of the first one
 pub record Over (file turns start : List ℕ) (p : Played) (memory log work : List ℕ) : Type 0 where
   pub places : List ℕ
   pub held : List ℕ
@@ -95,3 +102,4 @@ pub record Over (file turns start : List ℕ) (p : Played) (memory log work : Li
   pub refines :
       Refines (workersOf (planOf file)) (playedFrom (planOf file) start turns) (p .schedule)
       (kept places held registers (p .fates) can copied memory log work)
+  pub moved : p .schedule .sum ≡ keptSum (planOf file) (begin (planOf file) start) (sumOf start) turns

@@ -1,10 +1,12 @@
 // The holder's synchronising step: decided by its rule, then written.
 use crate::state::Schedule;
+use commits::commit;
 use format::limits::BARRIER_COUNT;
 use format::limits::WORKERS_LIMIT;
 use journal::log::packed;
 use journal::report::Counts;
 use pages::SLOTS;
+use pages::discard;
 use plan::decode::Record;
 use rules::decision::decide;
 use rules::lists::Lists;
@@ -17,6 +19,7 @@ ghost use Prim.Native.Nat.{_+_, _*_, _≤_, _<_};
 ghost use lib.Seq.{sets};
 ghost use Rattle.protocol.specs.Format.{workersLimit, lockLimit};
 ghost use Rattle.protocol.specs.Report.{entryLength, entryBytes};
+ghost use Rattle.protocol.specs.Sum.{sumOf};
 ghost use Rattle.journal.specs.Bytes.{entryAs};
 ghost use Rattle.writer.specs.Appended.{Appending};
 ghost use Rattle.pages.specs.Copies.{Lent};
@@ -24,21 +27,25 @@ ghost use Rattle.engine.specs.Kept.{kept};
 ghost use Rattle.engine.specs.Holding.{BytesSettled};
 ghost use Rattle.engine.specs.Moving.{Syncing, Synced};
 
-// The holder's copies: kept, committed to shared memory, or lost.
+// The holder's copies: kept, committed to shared memory, or lost. The sum of shared memory's words, moved by a commit.
 fn settle_bytes(
     bytes: Uncommitted,
     h: usize,
     memory: &mut [u8],
     work: &[u8],
     copied: &mut [bool; SLOTS],
-)
-    requires { ⌜ Lent (now memory) (now work) × (h < workersLimit) ⌝ }
-    ensures { λ _. ⌜ BytesSettled bytes h (now (memory .entry)) (now (copied .entry)) (now (work .entry)) (now (memory .exit)) (now (copied .exit)) ⌝ }
+    sum: u32,
+) -> u32
+    requires { ⌜ Lent (now memory) (now work) × (h < workersLimit) × (sum ≡ sumOf (now memory)) ⌝ }
+    ensures { λ r. ⌜ BytesSettled bytes h sum (now (memory .entry)) (now (copied .entry)) (now (work .entry)) r (now (memory .exit)) (now (copied .exit)) ⌝ }
 {
     match bytes {
-        Uncommitted::Kept => {}
-        Uncommitted::Committed => pages::commit(memory, work, copied, h),
-        Uncommitted::Lost => pages::discard(copied, h),
+        Uncommitted::Kept => sum,
+        Uncommitted::Committed => commit(memory, work, copied, h, sum),
+        Uncommitted::Lost => {
+            discard(copied, h);
+            sum
+        }
     }
 }
 
@@ -93,7 +100,7 @@ pub fn hold(
     let d = decide(r.op, r.number, w, count, sizes, lists, fates);
     let after = d.lists;
     let bytes = d.bytes;
-    settle_bytes(bytes, w, memory, work, copied);
+    let sum = settle_bytes(bytes, w, memory, work, copied, t.sum);
     let v = Worker {
         place: places[w],
         held: count,
@@ -122,5 +129,6 @@ pub fn hold(
             rounds: round.rounds,
             records,
         },
+        sum,
     }
 }

@@ -3,6 +3,7 @@ use crate::own::play_own;
 use crate::state::Played;
 use crate::state::Schedule;
 use crate::sync::sync;
+use commits::sum::memory_sum;
 use format::fates::GOING;
 use format::limits::BARRIER_COUNT;
 use format::limits::WORKERS_LIMIT;
@@ -11,14 +12,23 @@ use pages::SLOTS;
 use queue::Queue;
 use rules::lists::Lists;
 use token::raise;
+ghost use mathlib.Core.Path.{_≡_};
 ghost use Prim.Native.Nat.{_≤_};
+ghost use lib.ListN.{length};
 ghost use Rattle.protocol.specs.Format.{workersLimit};
+ghost use Rattle.protocol.specs.Calls.{memoryLength};
 ghost use Rattle.engine.specs.Turning.{RoundBegun, Playing, Over};
 
-// Round 1 of n workers: all of them who are awake are in its list, and can move.
-fn first_round(n: u64, fates: &[u64; WORKERS_LIMIT], can: &mut [bool; WORKERS_LIMIT]) -> Schedule
-    requires { ⌜ n ≤ workersLimit ⌝ }
-    ensures { λ t. ⌜ RoundBegun n (now (fates .entry)) (now (can .entry)) t (now (can .exit)) ⌝ }
+// Round 1 of n workers: all of them who are awake are in its list, and can move. The sum of shared memory's words is worked out here and
+// nowhere else.
+fn first_round(
+    n: u64,
+    fates: &[u64; WORKERS_LIMIT],
+    can: &mut [bool; WORKERS_LIMIT],
+    memory: &[u8],
+) -> Schedule
+    requires { ⌜ (n ≤ workersLimit) × (length (now memory) ≡ memoryLength) ⌝ }
+    ensures { λ t. ⌜ RoundBegun n (now (fates .entry)) (now (can .entry)) (now (memory .entry)) t (now (can .exit)) ⌝ }
 {
     let list = Queue::among(n, fates, GOING);
     let next = Queue::empty();
@@ -37,6 +47,7 @@ fn first_round(n: u64, fates: &[u64; WORKERS_LIMIT], can: &mut [bool; WORKERS_LI
             rounds: 0,
             records: 0,
         },
+        sum: memory_sum(memory),
     }
 }
 
@@ -61,7 +72,7 @@ pub fn play(
     let mut fates = first;
     let mut can = [false; WORKERS_LIMIT];
     let mut copied = [false; SLOTS];
-    let mut t = first_round(n as u64, &fates, &mut can);
+    let mut t = first_round(n as u64, &fates, &mut can, memory);
     let mut i = 0;
     while i < turns.len() {
         let own = play_own(

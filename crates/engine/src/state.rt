@@ -4,11 +4,12 @@ use journal::report::Counts;
 use plan::decode::Record;
 use rules::lists::Lists;
 
-// The lists, how many of the round's list are still away from the fence, and what is counted.
+// The lists, how many of the round's list are still away from the fence, what is counted, and the sum of shared memory's words.
 pub struct Schedule {
     pub lists: Lists,
     pub away: u64,
     pub counts: Counts,
+    pub sum: u32,
 }
 
 // The turn at which a list of turns stands, the moves made up to it, and the step of the worker that it names.

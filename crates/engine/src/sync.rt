@@ -48,6 +48,7 @@ pub fn sync(
                 rounds: counts.rounds,
                 records: counts.records,
             },
+            sum: t.sum,
         };
     }
     hold(

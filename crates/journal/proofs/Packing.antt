@@ -8,12 +8,13 @@ use lib.Dec.{lit<}
 use lib.ListN.{length, getD, take, drop, replicate, length-append, length-drop, drop-of-length-le}
 use borrow.Rule.Slice.PartMut.{midOf, putMid}
 use lib.Seq.{sets, sets-eq, take-at, length-take-le}
-use Rattle.protocol.specs.Format.{countFrom}
+use Rattle.protocol.specs.Format.{workersLimit, countFrom}
 use Rattle.protocol.specs.Rounds.{Entry}
 use Rattle.protocol.specs.Calls.{reportLength}
-use Rattle.protocol.specs.Report.{entryLength, logMark, twoBytes, entryBytes, logBytes}
-use Rattle.words.specs.Bytes.{numberLength, bytesOf}
+use Rattle.protocol.specs.Report.{entryLength, logMark, twoBytes, fourBytes, entryBytes, logBytes}
+use Rattle.words.specs.Bytes.{bytesOf}
 use Rattle.journal.specs.Bytes.{entryAs, shown, fatesFrom, talliesOf}
+use Rattle.journal.specs.Offsets.{reportEnd, talliesLength, reportFates, reportSum, sumLength}
 
 -- the lowest byte, and the number of the others
 lowest : (a m : ℕ) → a < 256 → (a + 256 * m) % 256 ≡ a
@@ -48,7 +49,7 @@ packs n r w o k c is hr hw ho hk hc =
     ∙ ap (λ (l : List ℕ). w ∷ l) (peel 2 _ o (k + 256 * c) ho refl ∙ ap (λ (l : List ℕ). o ∷ l) (peel 1 _ k c hk refl ∙ ap (λ (x : ℕ). k ∷ x ∷ []) last))))
 
 pub packs-tallies : (n e w m r k : ℕ) → n ≡ e + 256 * w + 65536 * (m + 65536 * (r + 65536 * k))
-    → e < 256 → w < 256 → m < 65536 → r < 65536 → bytesOf numberLength n ≡ talliesOf e w m r k
+    → e < 256 → w < 256 → m < 65536 → r < 65536 → bytesOf talliesLength n ≡ talliesOf e w m r k
 packs-tallies n e w m r k is he hw hm hr =
     let m₂ = m + 65536 * (r + 65536 * k) in
     peel 7 n e (w + 256 * m₂) he (omega arith)
@@ -95,10 +96,17 @@ cleared l at h =
     whole : length (take (length l - at) (drop at l)) ≡ length l - at
     whole = length-take-le (length l - at) (drop at l) (let e = length-drop at l in omega arith)
 
--- sixteen bytes written anew, eight and eight
-pub halves : (l : List ℕ) {m r a b : List ℕ} (x y : ℕ) → length l ≡ reportLength → m ≡ sets l 0 (bytesOf numberLength x) → r ≡ sets m numberLength (bytesOf numberLength y)
-    → bytesOf numberLength x ≡ a → bytesOf numberLength y ≡ b → r ≡ a ++ b
-halves l x y size low high low-is high-is =
-    rw (← low-is, ← high-is, high, low)
-    (sets-eq (bytesOf numberLength x ++ bytesOf numberLength y) l 0 (omega arith)
-    ∙ ap (λ (k : List ℕ). (bytesOf numberLength x ++ bytesOf numberLength y) ++ k) (drop-of-length-le l {i = reportLength} (omega arith)))
+-- the sum's four bytes
+pub packs-sum : (n : ℕ) → bytesOf sumLength n ≡ fourBytes n
+packs-sum n =
+    let third : n / 256 / 256 ≡ n / 65536 = omega arith in
+    rw third
+
+-- twenty bytes written anew: eight, eight and four
+pub parts : (l : List ℕ) {m k r a b c : List ℕ} (x y z : ℕ) → length l ≡ reportLength
+    → m ≡ sets l reportEnd (bytesOf talliesLength x) → k ≡ sets m reportFates (bytesOf workersLimit y) → r ≡ sets k reportSum (bytesOf sumLength z)
+    → bytesOf talliesLength x ≡ a → bytesOf workersLimit y ≡ b → bytesOf sumLength z ≡ c → r ≡ a ++ (b ++ c)
+parts l x y z size first second third a-is b-is c-is =
+    rw (← a-is, ← b-is, ← c-is, third, second, first)
+    (sets-eq (bytesOf talliesLength x ++ (bytesOf workersLimit y ++ bytesOf sumLength z)) l 0 (omega arith)
+    ∙ ap (λ (k : List ℕ). (bytesOf talliesLength x ++ (bytesOf workersLimit y ++ bytesOf sumLength z)) ++ k) (drop-of-length-le l {i = reportLength} (omega arith)))

@@ -7,7 +7,7 @@ use lib.ListN.{getD}
 use Rattle.protocol.specs.Format.{workersLimit, countFrom}
 use Rattle.protocol.specs.Steps.{onCondition, asleep, waiting}
 use Rattle.protocol.specs.Rounds.{Entry}
-use Rattle.protocol.specs.Report.{twoBytes, fateNumber, noWorker}
+use Rattle.protocol.specs.Report.{twoBytes, fourBytes, fateNumber, noWorker}
 use Rattle.format.specs.Fates.{codeAsleep}
 use Rattle.journal.specs.declared.report.Counts.{Counts}
 
@@ -39,5 +39,6 @@ pub record Narrowing (c : Counts) : Type 0 where
 abbrev pub talliesOf : ℕ → ℕ → ℕ → ℕ → ℕ → List ℕ
 talliesOf end workers moves rounds records = end ∷ workers ∷ (twoBytes moves ++ (twoBytes rounds ++ twoBytes records))
 
-unfoldable pub reportOf : ℕ → ℕ → Counts → List ℕ → List ℕ
-reportOf end workers c fates = talliesOf end workers (c .moves) (c .rounds) (c .records) ++ fatesFrom workers fates workersLimit 0
+unfoldable pub reportOf : ℕ → ℕ → Counts → List ℕ → ℕ → List ℕ
+reportOf end workers c fates sum =
+    talliesOf end workers (c .moves) (c .rounds) (c .records) ++ (fatesFrom workers fates workersLimit 0 ++ fourBytes sum)

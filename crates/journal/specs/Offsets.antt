@@ -26,6 +26,19 @@ reportMoves = 2
 abbrev pub reportRecords : ℕ
 reportRecords = 6
 
+-- the numbers up to the fates, then the fates, then the sum
+abbrev pub talliesLength : ℕ
+talliesLength = 8
+
+abbrev pub reportFates : ℕ
+reportFates = talliesLength
+
+abbrev pub reportSum : ℕ
+reportSum = reportFates + workersLimit
+
+abbrev pub sumLength : ℕ
+sumLength = 4
+
 -- a worker synchronises with each of its steps at most, and once behind the last
 abbrev pub entriesLimit : ℕ
 entriesLimit = workersLimit * (stepsLimit + 1)

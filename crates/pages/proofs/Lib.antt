@@ -2,5 +2,3 @@
 pub mod Parts
 -- From a slot to a worker's copies.
 pub mod Slots
--- A commit, byte by byte and page by page.
-pub mod Commits

@@ -1,5 +1,5 @@
 -- From a slot to a worker's copies, and what the code's stores and copies do to a slot.
-use Prim.Native.Nat.{ℕ, zero, suc, _+_, _*_, _<_, _≤_, _/_, _%_}
+use Prim.Native.Nat.{ℕ, _+_, _*_, _<_, _≤_, _/_, _%_}
 use native.Mathlib.Omega.{arith}
 use native.Mathlib.Decide.{ℕ-discrete, decLt}
 use mathlib.Core.Path.{_≡_, refl, sym, ap, _∙_, subst, subst⁻¹}
@@ -7,12 +7,11 @@ use mathlib.Core.Logic.{inl, inr}
 use mathlib.Core.Bool.{Bool, true, false}
 use mathlib.Core.List.{List}
 use lib.ListN.{length, getD, set, take, drop, length-set, length-drop, replicate, length-replicate}
-use lib.Seq.{ext-getD, getD-set-same, getD-set-other, paste, length-paste, take-take}
+use lib.Seq.{ext-getD, getD-set-same, getD-set-other, paste, length-paste}
 use Rattle.protocol.specs.Calls.{memoryLength, workLength}
 use Rattle.protocol.specs.Pages.{pageSize, pageCount, page, Copy, absent, copied, Copies, noCopies, pageOf, offsetOf, copyOf, loaded, loadByte, opened, stored, storeByte, storeWord}
-use Rattle.protocol.proofs.Bools.{or-left, or-right}
 use Rattle.protocol.proofs.Lists.{getD-copies, length-counted, mapped}
-use Rattle.pages.specs.Copies.{slotCount, part, slotOf, copyAt, twinAt, marked, slotCopy, copyIn, copiesIn, anyCopied, SlotHolds, WorkerHolds}
+use Rattle.pages.specs.Copies.{slotCount, part, slotOf, copyAt, twinAt, marked, slotCopy, copyIn, copiesIn, SlotHolds, WorkerHolds}
 use Rattle.pages.proofs.Parts.{Disjoint, getD-part, part-set-here, part-set-apart, part-paste-here, part-paste-apart}
 
 -- ---- what a slot holds
@@ -21,15 +20,6 @@ module _ (marks : List Bool) (work : List ℕ) (s : ℕ) where
   pub in-use : getD marks s false ≡ true → slotCopy marks work s ≡ copied (part (copyAt s) work) (part (twinAt s) work)
   unfolding slotCopy
   in-use e = ap (λ (m : Bool). marked m (part (copyAt s) work) (part (twinAt s) work)) e
-
-  -- all of both parts
-  pub whole-copy : (i : ℕ) → i ≡ pageSize → getD marks s false ≡ true
-      → copied (take i (part (copyAt s) work)) (take i (part (twinAt s) work)) ≡ slotCopy marks work s
-  whole-copy i all e =
-      ap (λ (n : ℕ). copied (take n (part (copyAt s) work)) (take n (part (twinAt s) work))) all
-      ∙ ap (λ (l : List ℕ). copied l (take pageSize (part (twinAt s) work))) (take-take pageSize pageSize (drop (copyAt s) work) (omega arith))
-      ∙ ap (λ (l : List ℕ). copied (part (copyAt s) work) l) (take-take pageSize pageSize (drop (twinAt s) work) (omega arith))
-      ∙ sym (in-use e)
 
   pub not-in-use : getD marks s false ≡ false → slotCopy marks work s ≡ absent
   unfolding slotCopy
@@ -63,16 +53,6 @@ pub unmarked : (n : ℕ) (work : List ℕ) (w : ℕ) → copiesIn (replicate n f
 unfolding noCopies
 unmarked n work w = copies-are (replicate n false) work w noCopies (length-replicate pageCount absent) (λ p h.
     not-in-use (replicate n false) work (slotOf w p) (getD-copies false n (slotOf w p)) ∙ sym (getD-copies absent pageCount p))
-
--- none of the first k pages is copied
-pub none-copied : (marks : List Bool) (w k : ℕ) → anyCopied marks w k ≡ false → (p : ℕ) → p < k → getD marks (slotOf w p) false ≡ false
-unfolding anyCopied
-none-copied marks w zero e p h = absurd (omega arith)
-none-copied marks w (suc k) e p h =
-    elim (ℕ-discrete p k) [
-      | yes same ↦ ap (λ (q : ℕ). getD marks (slotOf w q) false) same ∙ or-right (anyCopied marks w k) e
-      | no other ↦ none-copied marks w k (or-left (anyCopied marks w k) _ e) p (omega arith)
-    ]
 
 -- one slot changed is one page of its worker changed
 module _ (w p : ℕ) (copy : Copy) (marks : List Bool) (work : List ℕ) (marks′ : List Bool) (work′ : List ℕ) where

@@ -45,11 +45,6 @@ copyIn marks work w p = slotCopy marks work (slotOf w p)
 unfoldable pub copiesIn : List Bool → List ℕ → ℕ → Copies
 copiesIn marks work w = map (λ p. copyIn marks work w p) (upTo pageCount)
 
--- whether worker w has a copy of one of the first k pages
-unfoldable pub anyCopied : List Bool → ℕ → ℕ → Bool
-anyCopied marks w zero = false
-anyCopied marks w (suc k) = anyCopied marks w k || getD marks (slotOf w k) false
-
 -- One slot holds the given copy, and every other slot what it held.
 pub record SlotHolds (slot : ℕ) (copy : Copy) (marks : List Bool) (work : List ℕ) (marks′ : List Bool) (work′ : List ℕ) : Type 0 where
   pub here : slotCopy marks′ work′ slot ≡ copy
@@ -63,9 +58,3 @@ pub record WorkerHolds (w : ℕ) (copies : Copies) (marks : List Bool) (work : L
   pub others : (v : ℕ) → (v ≡ w → ⊥) → copiesIn marks′ work′ v ≡ copiesIn marks work v
   pub size : length work′ ≡ length work
   pub markSize : length marks′ ≡ length marks
-
--- Worker w has committed: shared memory has what it changed, and it has no copies.
-pub record Committed (w : ℕ) (marks : List Bool) (work memory : List ℕ) (marks′ : List Bool) (memory′ : List ℕ) : Type 0 where
-  pub shared : memory′ ≡ commit (copiesIn marks work w) memory
-  pub dropped : WorkerHolds w noCopies marks work marks′ work
-  pub size : length memory′ ≡ length memory

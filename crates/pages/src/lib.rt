@@ -7,12 +7,12 @@ use words::word;
 ghost use mathlib.Core.Path.{_≡_};
 ghost use mathlib.Core.List.{List};
 ghost use Prim.Native.Nat.{ℕ, _+_, _*_, _<_, _≤_, _/_, _%_};
-ghost use lib.ListN.{length, drop, set};
+ghost use lib.ListN.{length, drop};
 ghost use lib.Seq.{paste};
 ghost use Rattle.protocol.specs.Format.{workersLimit, addressLimit};
 ghost use Rattle.protocol.specs.Calls.{memoryLength};
-ghost use Rattle.protocol.specs.Pages.{pageSize, pageCount, page, noCopies, opened, loadByte, loadWord, storeByte, storeWord, commit};
-ghost use Rattle.pages.specs.Copies.{Lent, slotCount, slotCopy, copiesIn, anyCopied, SlotHolds, WorkerHolds, Committed};
+ghost use Rattle.protocol.specs.Pages.{pageSize, pageCount, page, noCopies, opened, loadByte, loadWord, storeByte, storeWord};
+ghost use Rattle.pages.specs.Copies.{Lent, slotCount, slotCopy, copiesIn, SlotHolds, WorkerHolds};
 
 pub struct Page;
 
@@ -114,38 +114,6 @@ pub fn store(
     store_byte(memory, work, copied, w, address + 1, high_byte(number));
 }
 
-// Writes the bytes of a page's working copy that differ from its twin, unless the slot is unused. Each byte is written, changed
-// or not, so that the loop becomes vector code.
-fn commit_page(memory: &mut [u8], work: &[u8], copied: &[bool; SLOTS], p: usize, slot: usize)
-    requires { ⌜ Lent (now memory) (now work) × (p < pageCount) × (slot < slotCount) ⌝ }
-    ensures { λ _. ⌜ now (memory .exit) ≡ commit (set noCopies p (slotCopy (now (copied .entry)) (now (work .entry)) slot)) (now (memory .entry)) ⌝ }
-{
-    if !copied[slot] {
-        return;
-    }
-    let first = Page::SIZE * p;
-    let at = Page::PAIR * slot;
-    let mut i = 0;
-    while i < Page::SIZE {
-        let b = work[at + i];
-        let t = work[at + Page::SIZE + i];
-        let m = memory[first + i];
-        memory[first + i] = if b != t { b } else { m };
-        i += 1;
-    }
-}
-
-fn commit_pages(memory: &mut [u8], work: &[u8], copied: &[bool; SLOTS], w: usize)
-    requires { ⌜ Lent (now memory) (now work) × (w < workersLimit) ⌝ }
-    ensures { λ _. ⌜ now (memory .exit) ≡ commit (copiesIn (now (copied .entry)) (now (work .entry)) w) (now (memory .entry)) ⌝ }
-{
-    let mut p = 0;
-    while p < Page::COUNT {
-        commit_page(memory, work, copied, p, Page::COUNT * w + p);
-        p += 1;
-    }
-}
-
 // A worker's copies are dropped.
 pub fn discard(copied: &mut [bool; SLOTS], w: usize)
     requires { ⌜ w < workersLimit ⌝ }
@@ -156,30 +124,4 @@ pub fn discard(copied: &mut [bool; SLOTS], w: usize)
         copied[Page::COUNT * w + p] = false;
         p += 1;
     }
-}
-
-// Whether a worker has a copy of any page. Each mark is read, so that all are read at once.
-fn any_copy(copied: &[bool; SLOTS], w: usize) -> bool
-    requires { ⌜ w < workersLimit ⌝ }
-    ensures { λ r. ⌜ r ≡ anyCopied (now (copied .entry)) w pageCount ⌝ }
-{
-    let mut any = false;
-    let mut p = 0;
-    while p < Page::COUNT {
-        any = any | copied[Page::COUNT * w + p];
-        p += 1;
-    }
-    any
-}
-
-// A worker's commit: shared memory gets what it changed, and its copies are dropped.
-pub fn commit(memory: &mut [u8], work: &[u8], copied: &mut [bool; SLOTS], w: usize)
-    requires { ⌜ Lent (now memory) (now work) × (w < workersLimit) ⌝ }
-    ensures { λ _. ⌜ Committed w (now (copied .entry)) (now (work .entry)) (now (memory .entry)) (now (copied .exit)) (now (memory .exit)) ⌝ }
-{
-    if !any_copy(copied, w) {
-        return;
-    }
-    commit_pages(memory, work, copied, w);
-    discard(copied, w);
 }

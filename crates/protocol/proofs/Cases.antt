@@ -8,6 +8,7 @@ use Rattle.protocol.specs.Steps.{newWorker, ownStep}
 use Rattle.protocol.specs.Rounds.{keep, queueOf, ruleOf, member, freed, apply, newRound}
 use Rattle.protocol.specs.Turns.{start, allArrived, can, move, turn, play}
 use Rattle.protocol.specs.RoundRun.{total, runUp, fence, token, roundsFrom}
+use Rattle.protocol.specs.Sum.{sumOf}
 use Rattle.protocol.specs.Report.{logBytes, allFinal, endOf, fateByte, reportBytes}
 use Rattle.protocol.specs.Calls.{runVerdict, lentLog, run}
 use Rattle.protocol.specs.Listing.{cycles}
@@ -17,5 +18,5 @@ pub cases-hold : map yields cases ≡ map expects cases
 unfolding recordFrom recordsFrom recordCount records rowIn known stepOf sizeIn sleepersIn stepsIn countFrom planIn anyOf lengthRule planRule
     barrierRecordRule sleepRecordRule operandsOutside stepRule laterRule recordRule skipRule checkSkips checkRecords check page noCopies loadByte loadWord storeByte storeWord
     commitFrom newWorker ownStep keep queueOf ruleOf member freed apply newRound start allArrived can move turn play total runUp fence token
-    roundsFrom logBytes allFinal endOf fateByte reportBytes runVerdict lentLog run cycles turnsOf padded lentTo yields expected expects cases
+    roundsFrom sumOf logBytes allFinal endOf fateByte reportBytes runVerdict lentLog run cycles turnsOf padded lentTo yields expected expects cases
 cases-hold = refl

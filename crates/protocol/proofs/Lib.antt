@@ -62,6 +62,8 @@ pub mod Demand3
 pub mod Bytes
 -- A record's round has begun when the record is logged, so it fits its two bytes.
 pub mod Logged
+-- Three: the sum that each commit moves is the sum worked out afresh.
+pub mod Sums
 -- The paper's cases, a check on the definitions.
 
 -- Cases 1 to 10 as one table, with the bytes that each leaves.

@@ -74,8 +74,15 @@ abbrev entry : ℕ → ℕ → ℕ → ℕ → ℕ → List ℕ
 entry round worker op number outcome = 0x4D ∷ 0x4C ∷ round ∷ 0 ∷ worker ∷ op ∷ number ∷ outcome ∷ []
 
 -- the report, its two-byte numbers being below 256
-abbrev report : ℕ → ℕ → ℕ → ℕ → ℕ → List ℕ → List ℕ
-report end n moves rounds records fates = end ∷ n ∷ moves ∷ 0 ∷ rounds ∷ 0 ∷ records ∷ 0 ∷ fates
+abbrev report : ℕ → ℕ → ℕ → ℕ → ℕ → List ℕ → List ℕ → List ℕ
+report end n moves rounds records fates sum = end ∷ n ∷ moves ∷ 0 ∷ rounds ∷ 0 ∷ records ∷ 0 ∷ (fates ++ sum)
+
+-- the sum's four bytes, low byte first; below 256 the first alone
+abbrev sum : ℕ → ℕ → ℕ → ℕ → List ℕ
+sum a b c d = a ∷ b ∷ c ∷ d ∷ []
+
+abbrev small : ℕ → List ℕ
+small a = sum a 0 0 0
 
 -- the fates of two workers, and of one
 abbrev both : ℕ → ℕ → List ℕ
@@ -95,9 +102,12 @@ racer w from to = rec w 17 0 from ++ rec w 22 0 2 ++ rec w 16 1 1 ++ rec w 18 1 
 abbrev pub race : List ℕ
 race = planRec 2 ++ racer 0 2 0 ++ racer 1 0 2
 
--- set a register to a number and store it at 0
+-- set a register to a number and store it at an address; and at 0
+abbrev storesAt : ℕ → ℕ → ℕ → List ℕ
+storesAt w number address = rec w 16 0 number ++ rec w 18 0 address
+
 abbrev stores : ℕ → ℕ → List ℕ
-stores w number = rec w 16 0 number ++ rec w 18 0 0
+stores w number = storesAt w number 0
 
 -- add 1 at 0
 abbrev adds : ℕ → List ℕ
@@ -133,45 +143,45 @@ case f l t m g r = record { file = f; lent = l; fed = t; memory = m; log = g; re
 unfoldable pub cases : List Case
 cases =
     -- 1, race: "At the end memory begins 01 00 01 00." "1 0 38 0 255", "1 1 38 0 255", "finished 12"
-    case race [] listing (1 ∷ 0 ∷ 1 ∷ 0 ∷ []) (exits 1) (report 1 2 12 1 2 (both 1 1))
+    case race [] listing (1 ∷ 0 ∷ 1 ∷ 0 ∷ []) (exits 1) (report 1 2 12 1 2 (both 1 1) (small 2))
     -- 2: "Worker 0 stores 256 at 0, worker 1 stores 1 there: 257."
-    ∷ case (planRec 2 ++ stores 0 256 ++ stores 1 1) [] listing (1 ∷ 1 ∷ []) (exits 1) (report 1 2 8 1 2 (both 1 1))
+    ∷ case (planRec 2 ++ stores 0 256 ++ stores 1 1) [] listing (1 ∷ 1 ∷ []) (exits 1) (report 1 2 8 1 2 (both 1 1) (sum 1 1 0 0))
     -- 3: "Address 0 holds 5; worker 0 stores 7, worker 1 stores 5: 7."
-    ∷ case (planRec 2 ++ stores 0 7 ++ stores 1 5) (5 ∷ []) listing (7 ∷ []) (exits 1) (report 1 2 8 1 2 (both 1 1))
+    ∷ case (planRec 2 ++ stores 0 7 ++ stores 1 5) (5 ∷ []) listing (7 ∷ []) (exits 1) (report 1 2 8 1 2 (both 1 1) (small 7))
     -- 4: "Both lock, add 1 at 0, unlock: 2, six log records."
     ∷ case (planRec 2 ++ locked 0 (adds 0) ++ locked 1 (adds 1)) [] listing (2 ∷ [])
     (entry 1 0 32 0 1 ++ entry 1 0 33 0 0 ++ entry 1 1 32 0 1 ++ entry 1 1 33 0 0 ++ exits 2)
-    (report 1 2 18 2 6 (both 1 1))
+    (report 1 2 18 2 6 (both 1 1) (small 2))
     -- 5: "The same without locks: 1."
-    ∷ case (planRec 2 ++ adds 0 ++ adds 1) [] listing (1 ∷ []) (exits 1) (report 1 2 12 1 2 (both 1 1))
+    ∷ case (planRec 2 ++ adds 0 ++ adds 1) [] listing (1 ∷ []) (exits 1) (report 1 2 12 1 2 (both 1 1) (small 1))
     -- 6: "One worker: lock, wait. Stuck, fate 3."
-    ∷ case waiter [] listing [] (entry 1 0 32 0 1 ++ entry 1 0 34 0 255) (report 2 1 3 1 2 (one 3))
+    ∷ case waiter [] listing [] (entry 1 0 32 0 1 ++ entry 1 0 34 0 255) (report 2 1 3 1 2 (one 3) (small 0))
     -- 7: "One worker: store, unlock. Failed, memory unchanged, outcome 254." It stores a number that would show.
-    ∷ case (planRec 1 ++ stores 0 7 ++ rec 0 33 0 0) [] listing [] (entry 1 0 33 0 254) (report 1 1 4 1 1 (one 2))
+    ∷ case (planRec 1 ++ stores 0 7 ++ rec 0 33 0 0) [] listing [] (entry 1 0 33 0 254) (report 1 1 4 1 1 (one 2) (small 0))
     -- 8: "Barrier size 2, two workers, barrier only: outcomes 0 and 2 in round 1."
     ∷ case (planRec 2 ++ rec 0 1 0 2 ++ rec 0 37 0 0 ++ rec 1 37 0 0) [] listing []
     (entry 1 0 37 0 0 ++ entry 1 1 37 0 2 ++ exits 2)
-    (report 1 2 8 2 4 (both 1 1))
+    (report 1 2 8 2 4 (both 1 1) (small 0))
     -- 9: "Worker 0: lock, wait, unlock. Worker 1: lock, signal, unlock. Worker 0 unlocks in round 1; round 2 exits 1, then 0."
     ∷ case (planRec 2 ++ locked 0 (rec 0 34 0 0) ++ locked 1 (rec 1 35 0 0)) [] listing []
     (entry 1 0 32 0 1 ++ entry 1 0 34 0 255 ++ entry 1 1 32 0 1 ++ entry 1 1 35 0 0 ++ entry 1 1 33 0 0 ++ entry 1 0 33 0 0
     ++ entry 2 1 38 0 255 ++ entry 2 0 38 0 255)
-    (report 1 2 12 2 8 (both 1 1))
+    (report 1 2 12 2 8 (both 1 1) (small 0))
     -- 10: "The plan of case 1 with no turns: going, no log."
-    ∷ case race [] nothing [] [] (report 0 2 0 0 0 (both 0 0))
+    ∷ case race [] nothing [] [] (report 0 2 0 0 0 (both 0 0) (small 0))
     -- "Each worker has four 16-bit registers, zero at first": one worker stores all four, over eights.
     ∷ case (planRec 1 ++ rec 0 18 0 0 ++ rec 0 18 1 2 ++ rec 0 18 2 4 ++ rec 0 18 3 6) (replicate 8 8) listing []
     (entry 1 0 38 0 255)
-    (report 1 1 6 1 1 (one 1))
+    (report 1 1 6 1 1 (one 1) (small 0))
     -- One: "A plan is finished when every worker exited, failed or sleeps": nobody starts worker 1, whose store is never made.
-    ∷ case (planRec 2 ++ sleepRec 1 ++ stores 1 7) [] listing [] (entry 1 0 38 0 255) (report 1 2 2 1 1 (both 1 5))
+    ∷ case (planRec 2 ++ sleepRec 1 ++ stores 1 7) [] listing [] (entry 1 0 38 0 255) (report 1 2 2 1 1 (both 1 5) (small 0))
     -- One: "1, or 253 if the worker wasn't asleep": worker 0 starts worker 1 twice, keeps the token and stores 7 at 0, worker 1 starts worker 2
     -- in round 2, and worker 2 copies the word at 0 to 2 in round 3.
     ∷ case
     (planRec 3 ++ sleepRec 1 ++ sleepRec 2 ++ rec 0 39 0 1 ++ rec 0 39 0 1 ++ stores 0 7 ++ rec 1 39 0 2 ++ rec 2 17 0 0 ++ rec 2 18 0 2)
     [] listing (7 ∷ 0 ∷ 7 ∷ [])
     (entry 1 0 39 1 1 ++ entry 1 0 39 1 253 ++ entry 1 0 38 0 255 ++ entry 2 1 39 2 1 ++ entry 2 1 38 0 255 ++ entry 3 2 38 0 255)
-    (report 1 3 13 3 6 (1 ∷ 1 ∷ 1 ∷ replicate 5 255))
+    (report 1 3 13 3 6 (1 ∷ 1 ∷ 1 ∷ replicate 5 255) (small 14))
     -- One: "the sleeper joins the tail of the next round's list": worker 3, started by worker 1, is there before worker 0, whom worker 1 frees
     -- from the barrier, worker 1 itself, and worker 2. The store between start and barrier is committed by the barrier.
     ∷ case
@@ -179,29 +189,29 @@ cases =
     [] listing (5 ∷ [])
     (entry 1 0 37 0 0 ++ entry 1 1 39 3 1 ++ entry 1 1 37 0 2 ++ entry 1 2 32 0 1 ++ entry 1 2 33 0 0
     ++ entry 2 3 38 0 255 ++ entry 2 0 38 0 255 ++ entry 2 1 38 0 255 ++ entry 2 2 38 0 255)
-    (report 1 4 18 2 9 (1 ∷ 1 ∷ 1 ∷ 1 ∷ replicate 4 255))
+    (report 1 4 18 2 9 (1 ∷ 1 ∷ 1 ∷ 1 ∷ replicate 4 255) (small 5))
     -- Two: "all waiters go directly behind the holder, first waiter first": workers 0, 2 and 3 wait on condition 0, worker 1 on condition 1.
     -- Worker 4, with a lock, keeps the token until its unlock.
     ∷ case (planRec 5 ++ waits 0 0 ++ waits 1 1 ++ waits 2 0 ++ waits 3 0 ++ locked 4 (rec 4 36 0 0)) [] listing []
     (waited 0 0 ++ waited 1 1 ++ waited 2 0 ++ waited 3 0 ++ entry 1 4 32 0 1 ++ entry 1 4 36 0 3 ++ unlocked 4
     ++ unlocked 0 ++ unlocked 2 ++ unlocked 3 ++ leave (4 ∷ 0 ∷ 2 ∷ 3 ∷ []))
-    (report 2 5 27 2 18 (1 ∷ 3 ∷ 1 ∷ 1 ∷ 1 ∷ replicate 3 255))
+    (report 2 5 27 2 18 (1 ∷ 3 ∷ 1 ∷ 1 ∷ 1 ∷ replicate 3 255) (small 0))
     -- The same without the lock: worker 4 gives up the token.
     ∷ case (planRec 5 ++ waits 0 0 ++ waits 1 1 ++ waits 2 0 ++ waits 3 0 ++ rec 4 36 0 0) [] listing []
     (waited 0 0 ++ waited 1 1 ++ waited 2 0 ++ waited 3 0 ++ entry 1 4 36 0 3
     ++ unlocked 0 ++ unlocked 2 ++ unlocked 3 ++ leave (4 ∷ 0 ∷ 2 ∷ 3 ∷ []))
-    (report 2 5 25 2 16 (1 ∷ 3 ∷ 1 ∷ 1 ∷ 1 ∷ replicate 3 255))
+    (report 2 5 25 2 16 (1 ∷ 3 ∷ 1 ∷ 1 ∷ 1 ∷ replicate 3 255) (small 0))
     -- Two: "0 if none": worker 0 without a lock, after a store that the broadcast commits, and worker 1 with one.
     ∷ case (planRec 2 ++ stores 0 9 ++ rec 0 36 0 3 ++ locked 1 (rec 1 36 0 3)) [] listing (9 ∷ [])
     (entry 1 0 36 3 0 ++ entry 1 1 32 0 1 ++ entry 1 1 36 3 0 ++ unlocked 1 ++ leave (0 ∷ 1 ∷ []))
-    (report 1 2 12 2 6 (both 1 1))
+    (report 1 2 12 2 6 (both 1 1) (small 9))
     -- Two, behind a signal of the same holder: the list is 3, 0, 4 after the signal and 3, 1, 2, 0, 4 after the broadcast.
     ∷ case
     (planRec 5 ++ waits 0 0 ++ waits 1 0 ++ waits 2 0 ++ locked 3 (rec 3 35 0 0 ++ rec 3 36 0 0) ++ locked 4 [])
     [] listing []
     (waited 0 0 ++ waited 1 0 ++ waited 2 0 ++ entry 1 3 32 0 1 ++ entry 1 3 35 0 0 ++ entry 1 3 36 0 2 ++ unlocked 3
     ++ unlocked 1 ++ unlocked 2 ++ unlocked 0 ++ entry 1 4 32 0 1 ++ unlocked 4 ++ leave (3 ∷ 1 ∷ 2 ∷ 0 ∷ 4 ∷ []))
-    (report 1 5 30 2 20 (replicate 5 1 ++ replicate 3 255))
+    (report 1 5 30 2 20 (replicate 5 1 ++ replicate 3 255) (small 0))
     -- Two workers signal back and forth: six come into the list of round 1.
     ∷ case
     (planRec 2 ++ locked 0 (rec 0 34 0 0 ++ rec 0 35 0 1 ++ rec 0 34 0 0 ++ rec 0 35 0 1)
@@ -209,7 +219,7 @@ cases =
     [] listing []
     (waited 0 0 ++ entry 1 1 32 0 1 ++ entry 1 1 35 0 0 ++ entry 1 1 34 1 255 ++ entry 1 0 35 1 1 ++ entry 1 0 34 0 255
     ++ entry 1 1 35 0 0 ++ entry 1 1 34 1 255 ++ entry 1 0 35 1 1 ++ unlocked 0 ++ unlocked 1 ++ leave (0 ∷ 1 ∷ []))
-    (report 1 2 18 2 14 (both 1 1))
+    (report 1 2 18 2 14 (both 1 1) (small 0))
     -- Three workers broadcast in turn: nine come into the list of round 1.
     ∷ case
     (planRec 3 ++ locked 0 (rec 0 34 0 0 ++ rec 0 34 0 0 ++ rec 0 36 0 0) ++ locked 1 (rec 1 34 0 0 ++ rec 1 36 0 0 ++ rec 1 34 0 0)
@@ -218,5 +228,19 @@ cases =
     (waited 0 0 ++ waited 1 0 ++ entry 1 2 32 0 1 ++ entry 1 2 36 0 2 ++ entry 1 2 34 0 255 ++ entry 1 0 34 0 255
     ++ entry 1 1 36 0 2 ++ entry 1 1 34 0 255 ++ entry 1 2 34 0 255 ++ entry 1 0 36 0 2 ++ unlocked 0 ++ unlocked 1 ++ unlocked 2
     ++ leave (0 ∷ 1 ∷ 2 ∷ []))
-    (report 1 3 24 2 18 (replicate 3 1 ++ replicate 5 255))
+    (report 1 3 24 2 18 (replicate 3 1 ++ replicate 5 255) (small 0))
+    -- Three, "at every commit": address 0 holds 5 and both store 7 there. The second commit writes what stands there, and moves nothing.
+    ∷ case (planRec 2 ++ stores 0 7 ++ stores 1 7) (5 ∷ []) listing (7 ∷ []) (exits 1) (report 1 2 8 1 2 (both 1 1) (small 7))
+    -- .. and the commit of a wait, behind which the worker stays.
+    ∷ case (planRec 1 ++ rec 0 32 0 0 ++ stores 0 9 ++ rec 0 34 0 0) [] listing (9 ∷ []) (waited 0 0) (report 2 1 5 1 2 (one 3) (small 9))
+    -- Three, a word of two words: 770 at 1 is 2 in the upper byte of the word at 0, and 3 in the lower one of the next.
+    ∷ case (planRec 1 ++ storesAt 0 770 1) [] listing (0 ∷ 2 ∷ 3 ∷ []) (entry 1 0 38 0 255) (report 1 1 4 1 1 (one 1) (sum 3 2 0 0))
+    -- .. and of two pages: 770 at 255.
+    ∷ case (planRec 1 ++ storesAt 0 770 255) [] listing (replicate 255 0 ++ (2 ∷ 3 ∷ [])) (entry 1 0 38 0 255)
+    (report 1 1 4 1 1 (one 1) (sum 3 2 0 0))
+    -- Three, memory of all 255, and no turns: 1,024 × 65,535 = 67,107,840.
+    ∷ case race (replicate 2048 255) nothing (replicate 2048 255) [] (report 0 2 0 0 0 (both 0 0) (sum 0 252 255 3))
+    -- .. and a 0 stored over the first word: the sum falls by 65,535, to 67,042,305.
+    ∷ case (planRec 1 ++ stores 0 0) (replicate 2048 255) listing (0 ∷ 0 ∷ replicate 2046 255) (entry 1 0 38 0 255)
+    (report 1 1 4 1 1 (one 1) (sum 1 252 254 3))
     ∷ []

@@ -10,7 +10,7 @@ use Rattle.protocol.specs.Rounds.{State}
 use Rattle.protocol.specs.Turns.{workersOf, start, play}
 use Rattle.protocol.specs.Report.{logBytes, reportBytes}
 
--- "Lent to a run: memory 2,048 bytes, log 8,256, report 16, work 32,768."
+-- "Lent to a run: memory 2,048 bytes, log 8,256, report 16, work 32,768." Three: the report has 20.
 abbrev pub memoryLength : ℕ
 memoryLength = 2048
 
@@ -18,7 +18,7 @@ abbrev pub logLength : ℕ
 logLength = 8256
 
 abbrev pub reportLength : ℕ
-reportLength = 16
+reportLength = 20
 
 abbrev pub workLength : ℕ
 workLength = 32768

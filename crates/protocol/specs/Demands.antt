@@ -1,5 +1,6 @@
--- Demand 3: the outcome does not hang on who moved first. What is claimed, of the definitions and of the bytes that a run leaves.
-use Prim.Native.Nat.{ℕ, zero, suc, _+_, _-_, _<_, _≤_}
+-- Demand 3: the outcome does not hang on who moved first. What is claimed, of the definitions and of the bytes that a run leaves. And
+-- document 02, Three, of the sum.
+use Prim.Native.Nat.{ℕ, zero, suc, _+_, _-_, _*_, _<_, _≤_}
 use mathlib.Core.Bool.{true, cond}
 use mathlib.Core.Path.{_≡_}
 use mathlib.Core.List.{List, [], _∷_, _++_}
@@ -9,6 +10,7 @@ use Rattle.protocol.specs.Format.{word, Plan}
 use Rattle.protocol.specs.Rounds.{Entry}
 use Rattle.protocol.specs.Turns.{workersOf, start, movingTurns, ended}
 use Rattle.protocol.specs.RoundRun.{moveLimit, roundRun}
+use Rattle.protocol.specs.Sum.{sumOf, keptSum}
 use Rattle.protocol.specs.Report.{logBytes}
 use Rattle.protocol.specs.Calls.{Buffers, buffersOf, logLength, playedFrom}
 
@@ -61,3 +63,13 @@ pub record Demand3Bytes (plan : Plan) (memory turns : List ℕ) (left : Buffers)
   pub movesBounded : movingTurns plan (start plan memory) turns ≤ moveLimit plan
   -- that many whole cycles end the plan
   pub cyclesEnd : Cycles (workersOf plan) (moveLimit plan) turns → getD (left .report) 0 0 ≡ 0 → ⊥
+
+-- Three: "It equals the sum worked out afresh after any turns": the sum that is worked out at the start alone and moved by each commit
+abbrev pub SumKept : Plan → List ℕ → List ℕ → Type 0
+SumKept plan memory turns = keptSum plan (start plan memory) (sumOf memory) turns ≡ sumOf (playedFrom plan memory turns .memory)
+
+-- .. and of the bytes that an accepted run leaves: the report's last four, low byte first, are the sum of the words of the memory that is left
+abbrev pub SumShown : Buffers → Type 0
+SumShown left =
+    word (getD (left .report) 16 0) (getD (left .report) 17 0) + 65536 * word (getD (left .report) 18 0) (getD (left .report) 19 0)
+    ≡ sumOf (left .memory)

@@ -16,6 +16,8 @@ pub mod Rounds
 pub mod Turns
 -- "The round-by-round run".
 pub mod RoundRun
+-- Three: the sum of the words at even addresses, and by how much each commit moves it.
+pub mod Sum
 -- "Log and report": both as bytes.
 pub mod Report
 -- "Calls and buffers": what the two host calls return and leave.

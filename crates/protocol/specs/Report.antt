@@ -1,4 +1,4 @@
--- Document 01, "Log and report": both as bytes.
+-- Document 01, "Log and report", and document 02, One and Three: both as bytes.
 use Prim.Native.Nat.{ℕ, _/_, _%_}
 use mathlib.Core.Bool.{Bool, true, false, cond, _&&_}
 use mathlib.Core.List.{List, [], _∷_, _++_, map}
@@ -8,10 +8,14 @@ use Rattle.protocol.specs.Format.{workersLimit, word, upTo}
 use Rattle.protocol.specs.Steps.{onCondition, atBarrier, Fate, going, exited, failed, asleep, waiting, Worker}
 use Rattle.protocol.specs.Rounds.{Entry, State, workerAt}
 use Rattle.protocol.specs.Turns.{ended}
+use Rattle.protocol.specs.Sum.{sumOf}
 
 -- a two-byte number, low byte first
 abbrev pub twoBytes : ℕ → List ℕ
 twoBytes k = (k % 256) ∷ (k / 256 % 256) ∷ []
+
+abbrev pub fourBytes : ℕ → List ℕ
+fourBytes k = twoBytes k ++ twoBytes (k / 65536)
 
 -- "Each executed synchronising step adds 8 bytes: mark 4D 4C, round (two), worker, op, number (one each), outcome."
 abbrev pub entryLength : ℕ
@@ -60,9 +64,14 @@ noWorker = 255
 unfoldable pub fateByte : State → ℕ → ℕ
 fateByte s w = cond (ltb w (length (s .workers))) (fateNumber (workerAt s w .fate)) noWorker
 
--- "Report, 16 bytes: end; n; moving turns; rounds completed; log records (two bytes each); then eight fates"
+abbrev pub fateBytes : State → List ℕ
+fateBytes s = map (λ w. fateByte s w) (upTo workersLimit)
+
+-- "end; n; moving turns; rounds completed; log records (two bytes each); then eight fates"; Three: "The report grows to 20 bytes, the last
+-- four being the sum, low byte first. It equals the sum worked out afresh after any turns."
 unfoldable pub reportBytes : State → List ℕ
 reportBytes s =
     endNumber (endOf s)
     ∷ length (s .workers)
-    ∷ (twoBytes (s .moves) ++ (twoBytes (s .rounds) ++ (twoBytes (length (s .log)) ++ map (λ w. fateByte s w) (upTo workersLimit))))
+    ∷ (twoBytes (s .moves)
+    ++ (twoBytes (s .rounds) ++ (twoBytes (length (s .log)) ++ (fateBytes s ++ fourBytes (sumOf (s .memory))))))

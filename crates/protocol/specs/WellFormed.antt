@@ -103,7 +103,7 @@ pub record WellFormed (file : List ℕ) : Type 0 where
   pub most : length file ≤ fileLimit
   pub formed : FormedRecords (records file)
 
--- "Lent to a run: memory 2,048 bytes, log 8,256, report 16, work 32,768."
+-- "Lent to a run: memory 2,048 bytes, log 8,256, report 16, work 32,768." Three: the report has 20.
 pub record Fitting (b : Buffers) : Type 0 where
   pub memory : length (b .memory) ≡ memoryLength
   pub log : length (b .log) ≡ logLength

@@ -1,21 +1,24 @@
 -- What a run leaves in the lent buffers is what the state at its end gives.
-use Prim.Native.Nat.{ℕ, _-_, _*_}
-use mathlib.Core.Path.{_≡_, refl, sym, ap, _∙_}
+use Prim.Native.Nat.{ℕ, _-_, _*_, _<_}
+use mathlib.Core.Path.{_≡_, refl, sym, ap, _∙_, subst⁻¹}
 use mathlib.Core.List.{List, [], _∷_, _++_}
 use native.Mathlib.Omega.{arith}
-use lib.ListN.{length, replicate}
+use lib.ListN.{length, getD, replicate}
 use Rattle.protocol.specs.Format.{planOf}
 use Rattle.protocol.specs.Refusals.{accepted, check}
 use Rattle.protocol.specs.Rounds.{Entry, State}
 use Rattle.protocol.specs.Turns.{workersOf, start}
+use Rattle.protocol.specs.Sum.{sumOf}
 use Rattle.protocol.specs.Report.{entryLength, logBytes, reportBytes}
 use Rattle.protocol.specs.Calls.{logLength, reportLength, workLength, buffersOf, lentLog, playedFrom}
+use Rattle.protocol.specs.Demands.{SumShown}
 use Rattle.protocol.proofs.Sound.{Sound}
 use Rattle.protocol.proofs.Accepted.{sound-file}
 use Rattle.protocol.proofs.Invariant.{Inv}
 use Rattle.protocol.proofs.Laws.{start-inv}
 use Rattle.protocol.proofs.Bounds.{Bounded, bounded}
 use Rattle.protocol.proofs.Obeys.{play-inv}
+use Rattle.protocol.proofs.Sums.{sum-small, sum-shown}
 use Rattle.queue.specs.List.{listOf}
 use Rattle.journal.specs.Bytes.{reportOf}
 use Rattle.engine.specs.Turning.{Over}
@@ -58,7 +61,7 @@ module _ (file turns start-memory : List ℕ) (ok : check file ≡ accepted) (p 
         size = size;
       }
 
-  module _ {log′ report′ work′ : List ℕ} (left : Closed (listOf (p .schedule .lists .list)) (p .schedule .counts) (p .fates) n log log′ report′ work work′) where
+  module _ {log′ report′ work′ : List ℕ} (left : Closed (listOf (p .schedule .lists .list)) (p .schedule .counts) (p .fates) n (p .schedule .sum) log log′ report′ work work′) where
     log-same : log′ ≡ lentLog (playedFrom (planOf file) start-memory turns)
     unfolding lentLog
     log-same =
@@ -72,15 +75,16 @@ module _ (file turns start-memory : List ℕ) (ok : check file ≡ accepted) (p 
     report-left : report′ ≡ reportBytes (playedFrom (planOf file) start-memory turns)
     report-left =
         left .reported
-        ∙ (ap (λ (ws : List ℕ). said ws (p .schedule .counts .moves) (p .schedule .counts .rounds) (p .schedule .counts .records)) (o .refines .lists .list .list)
-        ∙ (ap (λ (k : ℕ). said (state .list) k (p .schedule .counts .rounds) (p .schedule .counts .records)) (sym (o .refines .moves))
-        ∙ (ap (λ (k : ℕ). said (state .list) (state .moves) k (p .schedule .counts .records)) (sym (o .refines .rounds))
-        ∙ (ap (λ (k : ℕ). said (state .list) (state .moves) (state .rounds) k) (sym (o .refines .log .count))
-        ∙ report-same state n (p .fates) (inv .core .size ∙ sym right) (λ w h. o .refines .lists .fates w (omega (arith, right, h)))))))
+        ∙ (ap (λ (ws : List ℕ). said ws (p .schedule .counts .moves) (p .schedule .counts .rounds) (p .schedule .counts .records) (p .schedule .sum)) (o .refines .lists .list .list)
+        ∙ (ap (λ (k : ℕ). said (state .list) k (p .schedule .counts .rounds) (p .schedule .counts .records) (p .schedule .sum)) (sym (o .refines .moves))
+        ∙ (ap (λ (k : ℕ). said (state .list) (state .moves) k (p .schedule .counts .records) (p .schedule .sum)) (sym (o .refines .rounds))
+        ∙ (ap (λ (k : ℕ). said (state .list) (state .moves) (state .rounds) k (p .schedule .sum)) (sym (o .refines .log .count))
+        ∙ (ap (λ (k : ℕ). said (state .list) (state .moves) (state .rounds) (length (state .log)) k) (o .refines .sum)
+        ∙ report-same state n (p .fates) (inv .core .size ∙ sym right) (λ w h. o .refines .lists .fates w (omega (arith, right, h))))))))
       where
-        said : List ℕ → ℕ → ℕ → ℕ → List ℕ
-        said ws moves rounds records =
-            reportOf (endBy ws (p .fates) n) n (record { moves = moves; rounds = rounds; records = records }) (p .fates)
+        said : List ℕ → ℕ → ℕ → ℕ → ℕ → List ℕ
+        said ws moves rounds records sum =
+            reportOf (endBy ws (p .fates) n) n (record { moves = moves; rounds = rounds; records = records }) (p .fates) sum
 
     work-same : work′ ≡ replicate workLength 0
     work-same = left .cleared ∙ ap (λ (k : ℕ). replicate k 0) (o .refines .bytes .sizes .workLength)
@@ -91,3 +95,10 @@ module _ (file turns start-memory : List ℕ) (ok : check file ≡ accepted) (p 
         ∙ (ap (λ (bytes : List ℕ). lent (state .memory) bytes report′ work′) log-same
         ∙ (ap (λ (bytes : List ℕ). lent (state .memory) (lentLog state) bytes work′) report-left
         ∙ ap (λ (bytes : List ℕ). lent (state .memory) (lentLog state) (reportBytes state) bytes) work-same))
+
+    -- bytes that are read as a number are the sum, which no sum of bytes is too great for
+    pub sum-left : ((i : ℕ) → getD memory i 0 < 256) → SumShown (lent memory log′ report′ work′)
+    sum-left small =
+        let shared = o .refines .bytes .shared in
+        let most = sum-small memory small 1024 (omega (arith, o .refines .bytes .sizes .memoryLength)) in
+        subst⁻¹ SumShown left-same (sum-shown state (omega (arith, ap sumOf shared, most)))

@@ -1,4 +1,4 @@
--- What the call returns, and demand 3 of what it leaves.
+-- What the call returns, and demand 3 and the sum of what it leaves.
 use Prim.Native.Nat.{ℕ}
 use mathlib.Core.Bool.{Bool, true, false}
 use mathlib.Core.Path.{_≡_, refl, sym, ap, _∙_, subst⁻¹}
@@ -10,7 +10,7 @@ use Rattle.protocol.specs.Format.{planOf}
 use Rattle.protocol.specs.Refusals.{Verdict, accepted, refused, codeOf, check}
 use Rattle.protocol.specs.Turns.{workersOf}
 use Rattle.protocol.specs.Calls.{Buffers, Reply, buffersOf, misfit, namesNobody, turnsLimit, playedFrom, replyOf, verdictBy, runVerdict, run}
-use Rattle.protocol.specs.Demands.{Demand3Bytes}
+use Rattle.protocol.specs.Demands.{Demand3Bytes, SumShown}
 use Rattle.protocol.proofs.Bytes.{demand3-bytes}
 use Rattle.protocol.proofs.Numbered.{numbered}
 use Rattle.tampermauve.specs.Run.{answerBy, Ran}
@@ -43,9 +43,10 @@ module _ (file turns : List ℕ) (b : Buffers) where
       go (refused f i) = refl
 
   -- demand 3 follows from what the call returns and leaves
-  pub ran : (r : ℕ) (after : Buffers) → _≡_ {A = Reply} (record { returned = r; buffers = after }) (run file turns b) → Ran file turns b r after
+  pub ran : (r : ℕ) (after : Buffers) → _≡_ {A = Reply} (record { returned = r; buffers = after }) (run file turns b) → (r ≡ 0 → SumShown after)
+      → Ran file turns b r after
   unfolding runVerdict
-  ran r after same = record { same = same; demand3 = carried }
+  ran r after same sum = record { same = same; demand3 = carried; sum = sum }
     where
       verdict : r ≡ 0 → runVerdict file turns b ≡ accepted
       verdict z = none-refused (runVerdict file turns b) (sym returned-code ∙ (sym (ap (λ (o : Reply). o .returned) same) ∙ z))

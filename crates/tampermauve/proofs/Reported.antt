@@ -11,7 +11,8 @@ use Rattle.protocol.specs.Format.{workersLimit, upTo}
 use Rattle.protocol.specs.Steps.{onCondition, atBarrier, Fate, going, exited, failed, asleep, waiting, Worker, newWorker}
 use Rattle.protocol.specs.Rounds.{State, workerAt}
 use Rattle.protocol.specs.Turns.{noneLeft}
-use Rattle.protocol.specs.Report.{twoBytes, underWay, finished, stuck, isFinal, allFinal, endOf, endNumber, fateNumber, fateByte, reportBytes}
+use Rattle.protocol.specs.Sum.{sumOf}
+use Rattle.protocol.specs.Report.{twoBytes, fourBytes, underWay, finished, stuck, isFinal, allFinal, endOf, endNumber, fateNumber, fateByte, reportBytes}
 use Rattle.rules.specs.Codes.{fateCode}
 use Rattle.format.specs.Fates.{codeExited, codeAsleep}
 use Rattle.journal.specs.Bytes.{shownBy, shown, reportOf}
@@ -80,7 +81,7 @@ module _ (s : State) (n : ℕ) (fates : List ℕ) (size : length (s .workers) �
           ap (λ (k : ℕ). allOver fates k 0) (sym size)
           ∙ all-over fates (s .workers) 0 (λ i h. ap (λ (k : ℕ). getD fates k 0) (let e : 0 + i ≡ i = omega arith in e) ∙ same i (omega (arith, size, h)))
 
-  pub report-same : reportOf (endBy (s .list) fates n) n (record { moves = s .moves; rounds = s .rounds; records = length (s .log) }) fates
+  pub report-same : reportOf (endBy (s .list) fates n) n (record { moves = s .moves; rounds = s .rounds; records = length (s .log) }) fates (sumOf (s .memory))
       ≡ reportBytes s
   unfolding reportOf reportBytes
   report-same =
@@ -90,4 +91,4 @@ module _ (s : State) (n : ℕ) (fates : List ℕ) (size : length (s .workers) �
       (map-same (λ w. shown n w (getD fates w 0)) (λ w. fateByte s w) (upTo workersLimit) fate-byte))
     where
       counts : List ℕ → List ℕ
-      counts bs = twoBytes (s .moves) ++ (twoBytes (s .rounds) ++ (twoBytes (length (s .log)) ++ bs))
+      counts bs = twoBytes (s .moves) ++ (twoBytes (s .rounds) ++ (twoBytes (length (s .log)) ++ (bs ++ fourBytes (sumOf (s .memory)))))

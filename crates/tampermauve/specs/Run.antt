@@ -9,7 +9,7 @@ use Rattle.protocol.specs.Format.{planOf}
 use Rattle.protocol.specs.Refusals.{codeOf, check}
 use Rattle.protocol.specs.Turns.{workersOf}
 use Rattle.protocol.specs.Calls.{Buffers, Reply, turnsLimit, misfitBy, namesNobody, verdictBy, run}
-use Rattle.protocol.specs.Demands.{Demand3Bytes}
+use Rattle.protocol.specs.Demands.{Demand3Bytes, SumShown}
 use Rattle.plan.specs.Checking.{LaidOut}
 use Rattle.tampermauve.specs.declared.admit.Lengths.{Lengths}
 use Rattle.tampermauve.specs.declared.admit.Admitted.{Admitted}
@@ -32,7 +32,8 @@ pub record Admits (file turns : List ℕ) (l : Lengths) (a : Admitted) : Type 0 
   pub code : a .code ≡ answerBy file turns (unfit l)
   pub layout : a .code ≡ 0 → LaidOut file (a .layout)
 
--- what is returned and left is what the definition gives; and demand 3 of the bytes that an accepted run leaves
+-- what is returned and left is what the definition gives; and, of the bytes that an accepted run leaves, demand 3 and the sum
 pub record Ran (file turns : List ℕ) (before : Buffers) (r : ℕ) (after : Buffers) : Type 0 where
   pub same : _≡_ {A = Reply} (record { returned = r; buffers = after }) (run file turns before)
   pub demand3 : r ≡ 0 → Demand3Bytes (planOf file) (before .memory) turns after
+  pub sum : r ≡ 0 → SumShown after

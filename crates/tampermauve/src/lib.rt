@@ -66,6 +66,15 @@ pub extern "C" fn tampermauve_run(
     let t = played.schedule;
     let fates = played.fates;
     let counts = t.counts;
-    close_buffers(t.lists.list, counts, &fates, workers, log, report, work);
+    close_buffers(
+        t.lists.list,
+        counts,
+        &fates,
+        workers,
+        t.sum,
+        log,
+        report,
+        work,
+    );
     ACCEPTED
 }

@@ -8,10 +8,6 @@ use Rattle.protocol.specs.Format.{word}
 abbrev pub wordAt : List ℕ → ℕ → ℕ
 wordAt bytes at = word (getD bytes at 0) (getD bytes (at + 1) 0)
 
--- the bytes of the widest number
-abbrev pub numberLength : ℕ
-numberLength = 8
-
 -- so many bytes of a number, the lowest first
 abbrev pub bytesOf : ℕ → ℕ → List ℕ
 bytesOf zero n = []

@@ -4,10 +4,7 @@ ghost use Prim.Native.Nat.{_+_, _/_, _%_, _≤_};
 ghost use lib.ListN.{length, replicate};
 ghost use lib.Seq.{sets};
 ghost use Rattle.protocol.specs.Format.{word as Format·word};
-ghost use Rattle.words.specs.Bytes.{wordAt, numberLength, bytesOf};
-
-// The bytes of the widest number.
-const NUMBER_LENGTH: usize = 8;
+ghost use Rattle.words.specs.Bytes.{wordAt, bytesOf};
 
 // Two bytes as a number.
 pub fn word(low: u8, high: u8) -> u16
@@ -42,14 +39,14 @@ fn lowest(number: u64) -> u8
     (number % 256) as u8
 }
 
-// Writes the eight bytes of a number from a place on.
-pub fn put(bytes: &mut [u8], at: usize, number: u64)
-    requires { ⌜ at + numberLength ≤ length (now bytes) ⌝ }
-    ensures { λ _. ⌜ now (bytes .exit) ≡ sets (now (bytes .entry)) at (bytesOf numberLength number) ⌝ }
+// Writes so many bytes of a number, the lowest first, from a place on.
+pub fn put(bytes: &mut [u8], at: usize, count: usize, number: u64)
+    requires { ⌜ at + count ≤ length (now bytes) ⌝ }
+    ensures { λ _. ⌜ now (bytes .exit) ≡ sets (now (bytes .entry)) at (bytesOf count number) ⌝ }
 {
     let mut left = number;
     let mut k = 0;
-    while k < NUMBER_LENGTH {
+    while k < count {
         bytes[at + k] = lowest(left);
         left = left / 256;
         k += 1;

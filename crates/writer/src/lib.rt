@@ -15,7 +15,7 @@ fn append_at(log: &mut [u8], records: usize, entry: u64) -> usize
     ensures { λ r. ⌜ Appended (now (log .entry)) records entry r (now (log .exit)) ⌝ }
 {
     let at = ENTRY_LENGTH * records;
-    put(log, at, entry);
+    put(log, at, ENTRY_LENGTH, entry);
     records + 1
 }
 

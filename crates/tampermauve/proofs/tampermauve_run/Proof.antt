@@ -7,7 +7,7 @@ use mathlib.Core.List.{List}
 use Rattle.protocol.specs.Calls.{Buffers}
 use Rattle.tampermauve.specs.Run.{lent}
 use Rattle.tampermauve.proofs.Ran.{ran, refusal, acceptance}
-use Rattle.tampermauve.proofs.Left.{closes, left-same}
+use Rattle.tampermauve.proofs.Left.{closes, left-same, sum-left}
 use Rattle.tampermauve.proofs.Entering.{answered, buffers-fit, file-ok, workers-right, playing}
 use Rattle.tampermauve.proofs.tampermauve_run.Statement.{statement}
 use Rattle.tampermauve.proofs.tampermauve_run.Tie as tie
@@ -33,6 +33,7 @@ returns : tie.Need-returns
 returns c =
     let a = c .before .before in
     ran (file a) (turns a) (given a) _ _ (refusal (file a) (turns a) (given a) _ (a .admit .ensures .code) (λ e. omega (arith, e, c .if1 .taken)))
+    (λ e. absurd (omega (arith, e, c .if1 .taken)))
 
 -- the run is admitted
 module _ (c : tie.Else1) where
@@ -51,6 +52,10 @@ play-requires c κs =
 -- the turns are played
 abbrev at-play : tie.After-close-buffers-arg3 → tie.After-play
 at-play c = c .before .before .before .before .before .before .before .before .before .before .before .before .before
+
+-- .. and memory has come back, bytes as before
+abbrev at-memory : tie.After-close-buffers-arg3 → tie.After-slice-known5
+at-memory c = c .before .before .before .before .before .before .before .before .before .before .before
 
 abbrev at-else : tie.After-play → tie.Else1
 at-else c = c .before .before .before .before .before .before .before .before .before
@@ -87,6 +92,8 @@ returns-2 c =
     (acceptance (file a) (turns a) (given a) _ (answered (file a) (turns a) (given a) _ h z)
     (left-same (file a) (turns a) (given a .memory) (file-ok (file a) (turns a) (given a) _ h z) (p .play .result) _
     (workers-right (file a) (turns a) (given a) _ h z) (p .play .ensures) (closed .close-buffers .ensures)))
+    (λ e. sum-left (file a) (turns a) (given a .memory) (file-ok (file a) (turns a) (given a) _ h z) (p .play .result) _
+    (workers-right (file a) (turns a) (given a) _ h z) (p .play .ensures) (closed .close-buffers .ensures) (λ i. omega (arith, at-memory (closed .before) .slice-known5 .given i)))
 
 pub tampermauve-run-spec : {M : Type 1} → statement M
 tampermauve-run-spec =

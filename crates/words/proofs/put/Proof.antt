@@ -5,21 +5,22 @@ use native.Mathlib.Omega.{arith}
 use mathlib.Core.Path.{_≡_, refl}
 use lib.ListN.{length, length-set}
 use lib.Seq.{sets}
-use Rattle.words.specs.Bytes.{numberLength, bytesOf}
+use Rattle.words.specs.Bytes.{bytesOf}
 use Rattle.words.proofs.put.Statement.{statement}
 use Rattle.words.proofs.put.Tie as tie
 
 abbrev Inv-loop : tie.InvT-loop
-Inv-loop bytes₀ at n left₀ k₀ bytes left k =
-    (k ≤ numberLength) × (length bytes ≡ length bytes₀) × (sets bytes (at + k) (bytesOf (numberLength - k) left) ≡ sets bytes₀ at (bytesOf numberLength n))
+Inv-loop bytes₀ at count n left₀ k₀ bytes left k =
+    (k ≤ count) × (length bytes ≡ length bytes₀) × (sets bytes (at + k) (bytesOf (count - k) left) ≡ sets bytes₀ at (bytesOf count n))
 
 abbrev μ-loop : tie.MeasureT-loop
-μ-loop bytes₀ at n left₀ k₀ bytes left k = numberLength - k
+μ-loop bytes₀ at count n left₀ k₀ bytes left k = count - k
 
 loop-holds : tie.Need-loop-holds Inv-loop μ-loop
 loop-holds c =
     let e : c .before .args .at + 0 ≡ c .before .args .at = omega arith in
-    (omega arith, refl, rw e)
+    let all : c .before .args .count - 0 ≡ c .before .args .count = omega arith in
+    (omega arith, refl, rw (e, all))
 
 lowest-requires : tie.Need-lowest-requires Inv-loop μ-loop
 lowest-requires c κs = search needs
@@ -39,8 +40,9 @@ loop-less c = omega arith
 loop-again : tie.Need-loop-again Inv-loop μ-loop
 loop-again c =
     let at = c .before .before .loop in
-    let next : c .before .before .before .before .args .at + (at .k + 1) ≡ suc (c .before .before .before .before .args .at + at .k) = omega arith in
-    let rest : numberLength - at .k ≡ suc (numberLength - (at .k + 1)) = omega arith in
+    let a = c .before .before .before .before .args in
+    let next : a .at + (at .k + 1) ≡ suc (a .at + at .k) = omega arith in
+    let rest : a .count - at .k ≡ suc (a .count - (at .k + 1)) = omega arith in
     (omega arith, simp length-set (at .inv .1), rw (next, c .lowest .ensures) (rw rest at (at .inv .2)))
 
 same-length : tie.Need-same-length Inv-loop μ-loop
@@ -48,7 +50,7 @@ same-length c = search needs
 
 returns : tie.Need-returns Inv-loop μ-loop
 returns c =
-    let none : numberLength - c .before .loop .k ≡ 0 = omega arith in
+    let none : c .before .before .before .args .count - c .before .loop .k ≡ 0 = omega arith in
     rw none at (c .before .loop .inv .2)
 
 pub put-spec : {M : Type 1} → statement M

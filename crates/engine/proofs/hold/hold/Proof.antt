@@ -2,8 +2,9 @@
 use borrow.Author.Needs.{needs}
 use native.Mathlib.Omega.{arith}
 use Prim.Native.Nat.{_<_}
-use mathlib.Core.Path.{ap}
+use mathlib.Core.Path.{ap, _∙_}
 use Rattle.protocol.specs.Format.{workersLimit}
+use Rattle.protocol.specs.Sum.{sumOf}
 use Rattle.worker.specs.declared.Synchronised.{Synchronised}
 use Rattle.engine.proofs.Here.{small, place-small, moves-small}
 use Rattle.engine.proofs.Holder.{deciding, rounds-fit, records-fit, list-below, next-below, shown}
@@ -45,7 +46,7 @@ decide-requires c κs = deciding (c .before .before .before .before .before .bef
 settle-bytes-requires : tie.Need-settle-bytes-requires
 settle-bytes-requires c κs =
     let p = from-decide (c .before .before .before) .pre .1 .here in
-    (p .refines .bytes .sizes, small p)
+    (p .refines .bytes .sizes, small p, p .refines .sum ∙ ap sumOf (p .refines .bytes .shared))
 
 mul-held : tie.Need-mul-held
 mul-held c = omega (arith, named-late (c .before .before))
@@ -56,8 +57,8 @@ element-copy-out-held c = omega (arith, named-late (c .before .before))
 mul-t42 : tie.Need-mul-t42
 mul-t42 c = omega (arith, named-late (c .before .before .before))
 
-element-copy-out-t33 : tie.Need-element-copy-out-t33
-element-copy-out-t33 c = omega (arith, named-late (c .before .before .before))
+element-copy-out-t34 : tie.Need-element-copy-out-t34
+element-copy-out-t34 c = omega (arith, named-late (c .before .before .before))
 
 synchronise-requires : tie.Need-synchronise-requires
 synchronise-requires c κs = place-small (from-decide (from-bytes (c .before .before .before .before)) .pre .1 .here)
@@ -90,8 +91,8 @@ mul-held-2 c = omega (arith, named-late (from-step (from-record (from-turn (c .b
 element-write-held : tie.Need-element-write-held
 element-write-held c = omega (arith, named-late (from-step (from-record (from-turn (c .before .before)))))
 
-add-t33 : tie.Need-add-t33
-add-t33 c =
+add-t34 : tie.Need-add-t34
+add-t34 c =
     let d = from-bytes (from-step (from-record (from-turn (c .before .before .before)))) in
     omega (arith, moves-small (from-decide d .pre .1 .here))
 
@@ -130,7 +131,7 @@ hold-spec =
     mul-held
     element-copy-out-held
     mul-t42
-    element-copy-out-t33
+    element-copy-out-t34
     synchronise-requires
     record-step-requires
     turn-over-requires
@@ -138,7 +139,7 @@ hold-spec =
     element-write-places
     mul-held-2
     element-write-held
-    add-t33
+    add-t34
     same-length
     same-length-2
     returns)

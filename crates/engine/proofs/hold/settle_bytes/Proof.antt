@@ -1,4 +1,5 @@
 use borrow.Author.Needs.{needs}
+use native.Mathlib.Omega.{arith}
 use mathlib.Core.Path.{refl}
 use Rattle.engine.proofs.Settling.{settled-as}
 use Rattle.engine.proofs.hold.settle_bytes.Statement.{statement}
@@ -20,7 +21,7 @@ discard-requires : tie.Need-discard-requires
 discard-requires c κs = search needs
 
 returns : tie.Need-returns
-returns c = settled-as (c .enum-told .given .1) (record { shared = refl; mine = refl; others = λ v n. refl; size = refl; markSize = refl })
+returns c = settled-as (c .enum-told .given .1) (record { shared = refl; moved = omega arith; mine = refl; others = λ v n. refl; size = refl; markSize = refl })
 
 same-length : tie.Need-same-length
 same-length c = search needs
@@ -29,13 +30,13 @@ returns-2 : tie.Need-returns-2
 returns-2 c =
     let e = c .before .before .commit .ensures in
     settled-as (c .before .before .before .before .before .enum-told2 .given .1)
-    (record { shared = e .shared; mine = e .dropped .mine; others = e .dropped .others; size = e .size; markSize = e .dropped .markSize })
+    (record { shared = e .shared; moved = e .moved; mine = e .dropped .mine; others = e .dropped .others; size = e .size; markSize = e .dropped .markSize })
 
 returns-3 : tie.Need-returns-3
 returns-3 c =
     let e = c .discard .ensures (c .before .before .before .before .before .before .args .work .now) in
     settled-as (c .before .before .enum-told3 .given .1)
-    (record { shared = refl; mine = e .mine; others = e .others; size = refl; markSize = e .markSize })
+    (record { shared = refl; moved = omega arith; mine = e .mine; others = e .others; size = refl; markSize = e .markSize })
 
 pub settle-bytes-spec : {M : Type 1} → statement M
 settle-bytes-spec =

@@ -21,26 +21,32 @@ empty-requires-2 c κs = search needs
 raise-requires : tie.Need-raise-requires
 raise-requires c κs =
     let h = c .before .before .before .among .ensures in
-    (h .good, awake-below (c .before .before .before .before .args .fates .now) (c .before .before .before .before .pre) (h .list))
+    let start = c .before .before .before .before .before in
+    (h .good, awake-below (start .args .fates .now) (start .pre .0) (h .list))
 
 count-requires : tie.Need-count-requires
 count-requires c κs = search needs
 
+memory-sum-requires : tie.Need-memory-sum-requires
+memory-sum-requires c κs = search needs
+
 returns : tie.Need-returns
 returns c =
-    let r = c .before in
+    let counted = c .before in
+    let r = counted .before in
     let h = r .before .before .before .before .among .ensures in
     record {
       list = h;
       next = r .before .before .before .empty .ensures;
       waiting = r .before .before .empty2 .ensures;
-      away = c .count .ensures ∙ ap length (h .list);
+      away = counted .count .ensures ∙ ap length (h .list);
       moves = refl;
       rounds = refl;
       records = refl;
-      marks = r .raise .ensures ∙ ap (λ (ws : List ℕ). raised ws (r .before .before .before .before .before .args .can .now)) (h .list);
+      sum = c .memory-sum .ensures;
+      marks = r .raise .ensures ∙ ap (λ (ws : List ℕ). raised ws (r .before .before .before .before .before .before .args .can .now)) (h .list);
     }
 
 pub first-round-spec : {M : Type 1} → statement M
 first-round-spec =
-    tie.close (tie.spec among-requires empty-requires empty-requires-2 raise-requires count-requires returns)
+    tie.close (tie.spec among-requires empty-requires empty-requires-2 raise-requires count-requires memory-sum-requires returns)

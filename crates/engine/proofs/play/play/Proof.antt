@@ -21,7 +21,7 @@ abbrev μ-loop : tie.MeasureT-loop
 
 -- the places that later needs look back to
 abbrev from-loop : tie.At-loop Inv-loop μ-loop → tie.Start Inv-loop μ-loop
-from-loop c = c .before .before .before .before .before .before .before .before .before
+from-loop c = c .before .before .before .before .before .before .before .before .before .before
 
 abbrev from-own : tie.After-play-own Inv-loop μ-loop → tie.At-loop Inv-loop μ-loop
 from-own c = c .before .before .before .before .before .before .before .before .before
@@ -40,10 +40,12 @@ abbrev lent : tie.At-loop Inv-loop μ-loop → List ℕ → List ℕ → Kept
 lent l = keptOwn (l .loop .places) (l .loop .held) (l .loop .registers) (l .loop .can) (l .loop .copied) (l .loop .memory) (l .loop .work)
 
 first-round-requires : tie.Need-first-round-requires Inv-loop μ-loop
-first-round-requires c κs = let p = c .before .before .before .before .before .before .before .pre in omega (arith, p .workers, plan-sound (p .named) .workers)
+first-round-requires c κs =
+    let p = c .before .before .before .before .before .before .before .before .pre in
+    (omega (arith, p .workers, plan-sound (p .named) .workers), p .bytes .memoryLength)
 
 loop-holds : tie.Need-loop-holds Inv-loop μ-loop
-loop-holds c = begins (c .before .before .before .before .before .before .before .before .pre) (c .first-round .ensures)
+loop-holds c = begins (c .before .before .before .before .before .before .before .before .before .pre) (c .first-round .ensures)
 
 play-own-requires : tie.Need-play-own-requires Inv-loop μ-loop
 play-own-requires c κs =

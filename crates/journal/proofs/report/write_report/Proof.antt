@@ -1,7 +1,7 @@
--- `write_report`: sixteen bytes, eight and eight.
+-- `write_report`: twenty bytes: eight, eight and four.
 use borrow.Author.Needs.{needs}
 use Rattle.journal.specs.Bytes.{reportOf}
-use Rattle.journal.proofs.Packing.{halves}
+use Rattle.journal.proofs.Packing.{packs-sum, parts}
 use Rattle.journal.proofs.report.write_report.Statement.{statement}
 use Rattle.journal.proofs.report.write_report.Tie as tie
 
@@ -26,17 +26,22 @@ put-requires c κs = search needs
 put-requires-2 : tie.Need-put-requires-2
 put-requires-2 c κs = search needs
 
+put-requires-3 : tie.Need-put-requires-3
+put-requires-3 c κs = search needs
+
 same-length : tie.Need-same-length
 same-length c = search needs
 
 returns : tie.Need-returns
 unfolding reportOf
 returns c =
-    let put = c .before .before .before .before .before .before in
-    let fates = put .before .before in
+    let third = c .before .before in
+    let second = third .before .before .before .before in
+    let first = second .before .before .before .before in
+    let fates = first .before .before in
     let start = fates .before .before .before .before .before .before in
-    halves (start .args .report .now) _ _ (start .pre .1) (put .put .ensures) (c .before .before .put2 .ensures)
-    (fates .before .packed-tallies .ensures) (fates .packed-fates .ensures)
+    parts (start .args .report .now) _ _ _ (start .pre .1) (first .put .ensures) (second .put2 .ensures) (third .put3 .ensures)
+    (fates .before .packed-tallies .ensures) (fates .packed-fates .ensures) (packs-sum (start .args .sum))
 
 pub write-report-spec : {M : Type 1} → statement M
 write-report-spec =
@@ -49,5 +54,6 @@ write-report-spec =
     packed-fates-requires
     put-requires
     put-requires-2
+    put-requires-3
     same-length
     returns)

@@ -1,16 +1,21 @@
--- A commit, byte by byte; page by page; and the turns of the loops that make it.
+-- A commit, byte by byte and page by page.
 use Prim.Native.Nat.{ℕ, zero, suc, _+_, _*_, _<_, _≤_}
 use native.Mathlib.Omega.{arith}
 use native.Mathlib.Decide.{ℕ-discrete, decLt}
-use mathlib.Core.Path.{_≡_, refl, sym, ap, _∙_, subst⁻¹}
-use mathlib.Core.Bool.{cond}
+use mathlib.Core.Bool.{Bool, true, false}
+use mathlib.Core.Logic.{_⊎_, inl, inr}
+use mathlib.Core.Path.{_≡_, refl, sym, ap, _∙_, subst}
 use mathlib.Core.List.{List, [], _∷_}
-use lib.Dec.{eqb}
-use lib.ListN.{length, getD, set, take, length-set, length-take, List·getD-eq-default}
+use lib.ListN.{length, getD, set, take, length-take, List·getD-eq-default}
 use lib.Seq.{ext-getD, getD-set-same, getD-set-other, getD-take}
-use borrow.Author.Tests.{eq-eqb, ne-eqb}
-use Rattle.protocol.specs.Pages.{pageSize, pageCount, Copy, absent, copied, Copies, noCopies, pageOf, offsetOf, copyOf, committed, commitFrom, commit}
+use Rattle.protocol.specs.Pages.{pageSize, pageCount, Copy, absent, Copies, noCopies, pageOf, offsetOf, copyOf, committed, commitFrom, commit}
+use Rattle.protocol.proofs.Bools.{or-left, or-right}
 use Rattle.protocol.proofs.Lists.{getD-copies}
+use Rattle.pages.specs.Copies.{part, slotOf, copyAt, twinAt, slotCopy}
+use Rattle.pages.proofs.Parts.{getD-part}
+use Rattle.pages.proofs.Slots.{in-use}
+use Rattle.commits.specs.Blocks.{leftOf, Written}
+use Rattle.commits.specs.Committing.{anyCopied}
 
 -- ---- the first elements of a list, and one more of them
 
@@ -68,6 +73,18 @@ unfolding noCopies
 commit-none memory = commit-is noCopies memory memory refl (λ j h.
     ap (λ (k : Copy). committed k (offsetOf j) (getD memory j 0)) (sym (getD-copies absent pageCount (pageOf j))))
 
+-- ---- a worker without copies
+
+-- none of the first k pages is copied
+pub none-copied : (marks : List Bool) (w k : ℕ) → anyCopied marks w k ≡ false → (p : ℕ) → p < k → getD marks (slotOf w p) false ≡ false
+unfolding anyCopied
+none-copied marks w zero e p h = absurd (omega arith)
+none-copied marks w (suc k) e p h =
+    elim (ℕ-discrete p k) [
+      | yes same ↦ ap (λ (q : ℕ). getD marks (slotOf w q) false) same ∙ or-right (anyCopied marks w k) e
+      | no other ↦ none-copied marks w k (or-left (anyCopied marks w k) _ e) p (omega arith)
+    ]
+
 -- ---- one page alone
 
 module _ (p : ℕ) (copy : Copy) (h : p < pageCount) (j shared : ℕ) where
@@ -94,92 +111,29 @@ commit-same p h memory copy same = commit-is (set noCopies p copy) memory memory
 pub commit-unused : (p : ℕ) → p < pageCount → (memory : List ℕ) (copy : Copy) → copy ≡ absent → memory ≡ commit (set noCopies p copy) memory
 commit-unused p h memory copy e = commit-same p h memory copy (λ o s. ap (λ (k : Copy). committed k o s) e)
 
--- ---- a turn of the loop over one page's bytes
+-- all bytes of the page of a slot in use are committed
+module _ (p slot : ℕ) (h : p < pageCount) (marks : List Bool) (work memory memory′ : List ℕ) (on : getD marks slot false ≡ true)
+    (written : Written (pageSize * p) (copyAt slot) pageSize work memory memory′) where
+  byte-there : (j : ℕ) → pageOf j ≡ p → getD memory′ j 0 ≡ committed (slotCopy marks work slot) (offsetOf j) (getD memory j 0)
+  byte-there j e =
+      let place : pageSize * p + offsetOf j ≡ j = omega arith in
+      let o : offsetOf j < pageSize = omega arith in
+      subst
+      (λ (n : ℕ). getD memory′ n 0 ≡ leftOf (getD work (copyAt slot + offsetOf j) 0) (getD work (twinAt slot + offsetOf j) 0) (getD memory n 0))
+      place
+      (written .here (offsetOf j) o)
+      ∙ ap (λ (b : ℕ). leftOf b (getD work (twinAt slot + offsetOf j) 0) (getD memory j 0)) (sym (getD-part (copyAt slot) work (offsetOf j) o))
+      ∙ ap (λ (t : ℕ). leftOf (getD (part (copyAt slot) work) (offsetOf j) 0) t (getD memory j 0)) (sym (getD-part (twinAt slot) work (offsetOf j) o))
+      ∙ ap (λ (k : Copy). committed k (offsetOf j) (getD memory j 0)) (sym (in-use marks work slot on))
 
-committed-as : (working twin : List ℕ) (offset shared x y : ℕ) → getD working offset 0 ≡ x → getD twin offset 0 ≡ y
-    → committed (copied working twin) offset shared ≡ cond (eqb x y) shared x
-committed-as working twin offset shared x y e f = cc
+  away : (j : ℕ) → (pageOf j ≡ p → ⊥) → (j < pageSize * p) ⊎ (pageSize * p + pageSize ≤ j)
+  away j ne = elim (decLt (pageOf j) p) [ yes l ↦ inl (omega arith) | no l ↦ inr (omega arith) ]
 
--- the choice of a byte, however the code tests for it
-abbrev pub Chosen : ℕ → ℕ → ℕ → ℕ → Type 0
-Chosen shared b t v = (b ≡ t → v ≡ shared) × ((b ≡ t → ⊥) → v ≡ b)
-
-chosen : (shared b t v : ℕ) → Chosen shared b t v → v ≡ cond (eqb b t) shared b
-chosen shared b t v (same, differs) = elim (ℕ-discrete b t) [
-  | yes e ↦ rw (eq-eqb b t e) (same e)
-  | no ne ↦ rw (ne-eqb b t ne) (differs ne)
-]
-
-module _ (p : ℕ) (h : p < pageCount) (working twin memory : List ℕ) where
-  -- what of the page stands in memory after i turns
-  abbrev pub alone : ℕ → Copies
-  alone i = set noCopies p (copied (take i working) (take i twin))
-
-  abbrev pub done : ℕ → List ℕ
-  done i = commit (alone i) memory
-
-  pub done-none : memory ≡ done 0
-  done-none = commit-same p h memory (copied [] []) (λ o s. refl)
-
-  module _ (i : ℕ) (ih : i < pageSize) (inside : pageSize * p + i < length memory) where
-    abbrev x : ℕ
-    x = pageSize * p + i
-
-    page-x : pageOf x ≡ p
-    page-x = omega arith
-
-    offset-x : offsetOf x ≡ i
-    offset-x = omega arith
-
-    -- the byte at x, after some number of turns
-    at-x : (k y z : ℕ) → getD (take k working) i 0 ≡ y → getD (take k twin) i 0 ≡ z
-        → committed (copyOf (alone k) (pageOf x)) (offsetOf x) (getD memory x 0) ≡ cond (eqb y z) (getD memory x 0) y
-    at-x k y z e f =
-        on-page p (copied (take k working) (take k twin)) h x (getD memory x 0) page-x
-        ∙ committed-as (take k working) (take k twin) (offsetOf x) (getD memory x 0) y z
-        (ap (λ (o : ℕ). getD (take k working) o 0) offset-x ∙ e)
-        (ap (λ (o : ℕ). getD (take k twin) o 0) offset-x ∙ f)
-
-    shared-x : getD (done i) x 0 ≡ getD memory x 0
-    shared-x = commit-at (alone i) memory x inside ∙ at-x i 0 0 (getD-past 0 working i i (omega arith)) (getD-past 0 twin i i (omega arith))
-
-    same-there : (j : ℕ) → (j ≡ x → ⊥)
-        → committed (copyOf (alone i) (pageOf j)) (offsetOf j) (getD memory j 0)
-        ≡ committed (copyOf (alone (i + 1)) (pageOf j)) (offsetOf j) (getD memory j 0)
-    same-there j ne = elim (ℕ-discrete (pageOf j) p) [
-      | yes e ↦
-          on-page p _ h j (getD memory j 0) e
-          ∙ committed-as (take i working) (take i twin) (offsetOf j) (getD memory j 0) _ _
-          (getD-more 0 working i (offsetOf j) (λ o. ne (omega arith)))
-          (getD-more 0 twin i (offsetOf j) (λ o. ne (omega arith)))
-          ∙ sym (on-page p (copied (take (i + 1) working) (take (i + 1) twin)) h j (getD memory j 0) e)
-      | no off ↦ off-page p _ h j (getD memory j 0) off ∙ sym (off-page p _ h j (getD memory j 0) off)
-    ]
-
-    pub done-more : (m : List ℕ) (b t v : ℕ) → m ≡ done i → getD working i 0 ≡ b → getD twin i 0 ≡ t → Chosen (getD m x 0) b t v
-        → set m x v ≡ done (i + 1)
-    done-more m b t v e eb et f =
-        ap (λ (l : List ℕ). set l x v) e
-        ∙ commit-is (alone (i + 1)) memory (set (done i) x v) (length-set (done i) x v ∙ length-commit (alone i) memory) each
-      where
-        v-is : v ≡ cond (eqb b t) (getD memory x 0) b
-        v-is = chosen (getD m x 0) b t v f ∙ ap (λ (s : ℕ). cond (eqb b t) s b) (ap (λ (l : List ℕ). getD l x 0) e ∙ shared-x)
-
-        within : x < length (done i)
-        within = rw (length-commit (alone i) memory) inside
-
-        at-i : getD (set (done i) x v) x 0 ≡ committed (copyOf (alone (i + 1)) (pageOf x)) (offsetOf x) (getD memory x 0)
-        at-i =
-            getD-set-same (done i) x v 0 within
-            ∙ v-is
-            ∙ sym (at-x (i + 1) b t (getD-take (i + 1) working i 0 (omega arith) ∙ eb) (getD-take (i + 1) twin i 0 (omega arith) ∙ et))
-
-        each : (j : ℕ) → j < length memory
-            → getD (set (done i) x v) j 0 ≡ committed (copyOf (alone (i + 1)) (pageOf j)) (offsetOf j) (getD memory j 0)
-        each j k = elim (ℕ-discrete j x) [
-          | yes same ↦ subst⁻¹ (λ (n : ℕ). getD (set (done i) x v) n 0 ≡ committed (copyOf (alone (i + 1)) (pageOf n)) (offsetOf n) (getD memory n 0)) same at-i
-          | no ne ↦ getD-set-other (done i) x j v 0 ne ∙ commit-at (alone i) memory j k ∙ same-there j ne
-        ]
+  pub page-written : memory′ ≡ commit (set noCopies p (slotCopy marks work slot)) memory
+  page-written = commit-is (set noCopies p (slotCopy marks work slot)) memory memory′ (written .size) (λ j b. elim (ℕ-discrete (pageOf j) p) [
+    | yes e ↦ byte-there j e ∙ sym (on-page p (slotCopy marks work slot) h j (getD memory j 0) e)
+    | no ne ↦ written .elsewhere j (away j ne) ∙ sym (off-page p (slotCopy marks work slot) h j (getD memory j 0) ne)
+  ])
 
 -- ---- a turn of the loop over the pages
 

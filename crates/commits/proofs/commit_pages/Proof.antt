@@ -1,4 +1,4 @@
--- `commit_pages`: after p turns, what a commit of the first p copies leaves.
+-- `commit_pages`: after p turns, what a commit of the first p copies leaves, and its sum.
 use Prim.Native.Nat.{_-_, _<_, _≤_}
 use native.Mathlib.Omega.{arith}
 use mathlib.Core.Path.{_≡_, refl, ap, _∙_}
@@ -6,21 +6,22 @@ use lib.ListN.{length, take}
 use lib.Seq.{take-all}
 use borrow.Author.Needs.{needs}
 use Rattle.protocol.specs.Pages.{pageCount, Copies, commit}
+use Rattle.protocol.specs.Sum.{sumOf}
 use Rattle.pages.specs.Copies.{copyIn, copiesIn}
 use Rattle.pages.proofs.Slots.{length-copies, copies-at}
-use Rattle.pages.proofs.Commits.{commit-nothing, pages-more}
-use Rattle.pages.proofs.commit_pages.Statement.{statement}
-use Rattle.pages.proofs.commit_pages.Tie as tie
+use Rattle.commits.proofs.Commits.{commit-nothing, pages-more}
+use Rattle.commits.proofs.commit_pages.Statement.{statement}
+use Rattle.commits.proofs.commit_pages.Tie as tie
 
 abbrev Inv-loop : tie.InvT-loop
-Inv-loop memory₀ work copied w p₀ memory p =
-    (p ≤ pageCount) × (length memory ≡ length memory₀) × (memory ≡ commit (take p (copiesIn copied work w)) memory₀)
+Inv-loop memory₀ work copied w sum total₀ p₀ memory total p =
+    (p ≤ pageCount) × (length memory ≡ length memory₀) × (memory ≡ commit (take p (copiesIn copied work w)) memory₀) × (total ≡ sumOf memory)
 
 abbrev μ-loop : tie.MeasureT-loop
-μ-loop memory₀ work copied w p₀ memory p = pageCount - p
+μ-loop memory₀ work copied w sum total₀ p₀ memory total p = pageCount - p
 
 loop-holds : tie.Need-loop-holds Inv-loop μ-loop
-loop-holds c = (search needs, refl, commit-nothing (c .before .before .args .memory .now))
+loop-holds c = (search needs, refl, commit-nothing (c .before .before .args .memory .now), search needs)
 
 mul-commit-page : tie.Need-mul-commit-page Inv-loop μ-loop
 mul-commit-page c = search needs
@@ -48,7 +49,8 @@ loop-again c =
       search needs,
       pages-more (copiesIn (a .copied .now) (a .work .now) (a .w)) (a .memory .now) p h
           (copyIn (a .copied .now) (a .work .now) (a .w) p) (l .loop .memory) (called .commit-page .last .0)
-          (copies-at (a .copied .now) (a .work .now) (a .w) p h) (l .loop .inv .2) (called .commit-page .ensures),
+          (copies-at (a .copied .now) (a .work .now) (a .w) p h) (l .loop .inv .2) (called .commit-page .ensures .0),
+      called .commit-page .ensures .1,
     )
 
 same-length : tie.Need-same-length Inv-loop μ-loop
@@ -60,7 +62,7 @@ returns c =
     let a = l .before .before .before .args in
     let copies = copiesIn (a .copied .now) (a .work .now) (a .w) in
     let all : length copies ≤ l .loop .p = omega (arith, length-copies (a .copied .now) (a .work .now) (a .w)) in
-    l .loop .inv .2 ∙ ap (λ (k : Copies). commit k (a .memory .now)) (take-all (l .loop .p) copies all)
+    (l .loop .inv .2 ∙ ap (λ (k : Copies). commit k (a .memory .now)) (take-all (l .loop .p) copies all), l .loop .inv .3)
 
 pub commit-pages-spec : {M : Type 1} → statement M
 commit-pages-spec =

@@ -8,9 +8,10 @@ use mathlib.Core.List.{List}
 use lib.ListN.{getD}
 use borrow.Author.Needs.{needs}
 use Rattle.protocol.specs.Pages.{pageCount}
-use Rattle.pages.specs.Copies.{slotOf, anyCopied}
-use Rattle.pages.proofs.any_copy.Statement.{statement}
-use Rattle.pages.proofs.any_copy.Tie as tie
+use Rattle.pages.specs.Copies.{slotOf}
+use Rattle.commits.specs.Committing.{anyCopied}
+use Rattle.commits.proofs.any_copy.Statement.{statement}
+use Rattle.commits.proofs.any_copy.Tie as tie
 
 abbrev Inv-loop : tie.InvT-loop
 Inv-loop copied w any₀ p₀ any p = (p ≤ pageCount) × (any ≡ anyCopied copied w p)

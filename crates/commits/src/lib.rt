@@ -1,0 +1,132 @@
+// A worker's commit: shared memory gets what the worker changed, and the sum of shared memory's words is moved by as much. A page is
+// committed block by block, and where no byte of a block differs from its twin neither memory nor the sum is looked at.
+pub mod sum;
+
+use crate::sum::Block;
+use crate::sum::block_sum;
+use pages::Page;
+use pages::SLOTS;
+use pages::discard;
+ghost use mathlib.Core.Path.{_≡_};
+ghost use Prim.Native.Nat.{_+_, _<_, _≤_};
+ghost use lib.ListN.{length, set};
+ghost use Rattle.protocol.specs.Format.{workersLimit};
+ghost use Rattle.protocol.specs.Pages.{pageSize, pageCount, noCopies, commit};
+ghost use Rattle.protocol.specs.Sum.{sumOf};
+ghost use Rattle.pages.specs.Copies.{Lent, slotCount, slotCopy, copiesIn};
+ghost use Rattle.commits.specs.Blocks.{blockSize, anyDiffers, Written, BlockLent};
+ghost use Rattle.commits.specs.Committing.{anyCopied, Committed};
+
+// Whether a byte of a block of a working copy differs from its twin. Each is looked at, so that the loop becomes vector code.
+fn differs(work: &[u8], at: usize) -> bool
+    requires { ⌜ at + pageSize + blockSize ≤ length (now work) ⌝ }
+    ensures { λ r. ⌜ r ≡ anyDiffers (now (work .entry)) at blockSize ⌝ }
+{
+    let mut any = false;
+    let mut i = 0;
+    while i < Block::SIZE {
+        let b = work[at + i];
+        let t = work[at + Page::SIZE + i];
+        any = any | (b != t);
+        i += 1;
+    }
+    any
+}
+
+// Writes the bytes of a block that differ from their twins. Each byte is written, changed or not, so that the loop becomes vector code.
+fn write_block(memory: &mut [u8], work: &[u8], first: usize, at: usize)
+    requires { ⌜ (first + blockSize ≤ length (now memory)) × (at + pageSize + blockSize ≤ length (now work)) ⌝ }
+    ensures { λ _. ⌜ Written first at blockSize (now (work .entry)) (now (memory .entry)) (now (memory .exit)) ⌝ }
+{
+    let mut i = 0;
+    while i < Block::SIZE {
+        let b = work[at + i];
+        let t = work[at + Page::SIZE + i];
+        let m = memory[first + i];
+        memory[first + i] = if b != t { b } else { m };
+        i += 1;
+    }
+}
+
+// Commits a block. The sum falls by the block's words as they stood in shared memory, and rises by those that stand there now.
+fn commit_block(memory: &mut [u8], work: &[u8], first: usize, at: usize, sum: u32) -> u32
+    requires { ⌜ BlockLent first at (now work) (now memory) × (sum ≡ sumOf (now memory)) ⌝ }
+    ensures { λ r. ⌜ Written first at blockSize (now (work .entry)) (now (memory .entry)) (now (memory .exit)) × (r ≡ sumOf (now (memory .exit))) ⌝ }
+{
+    if !differs(work, at) {
+        return sum;
+    }
+    let before = block_sum(memory, first);
+    write_block(memory, work, first, at);
+    let after = block_sum(memory, first);
+    sum - before + after
+}
+
+// Commits the page of a slot, unless the slot is unused.
+fn commit_page(
+    memory: &mut [u8],
+    work: &[u8],
+    copied: &[bool; SLOTS],
+    p: usize,
+    slot: usize,
+    sum: u32,
+) -> u32
+    requires { ⌜ Lent (now memory) (now work) × (p < pageCount) × (slot < slotCount) × (sum ≡ sumOf (now memory)) ⌝ }
+    ensures { λ r. ⌜ (now (memory .exit) ≡ commit (set noCopies p (slotCopy (now (copied .entry)) (now (work .entry)) slot)) (now (memory .entry)))
+        × (r ≡ sumOf (now (memory .exit))) ⌝ }
+{
+    if !copied[slot] {
+        return sum;
+    }
+    let first = Page::SIZE * p;
+    let at = Page::PAIR * slot;
+    let mut total = sum;
+    let mut k = 0;
+    while k < Page::SIZE {
+        total = commit_block(memory, work, first + k, at + k, total);
+        k += Block::SIZE;
+    }
+    total
+}
+
+fn commit_pages(memory: &mut [u8], work: &[u8], copied: &[bool; SLOTS], w: usize, sum: u32) -> u32
+    requires { ⌜ Lent (now memory) (now work) × (w < workersLimit) × (sum ≡ sumOf (now memory)) ⌝ }
+    ensures { λ r. ⌜ (now (memory .exit) ≡ commit (copiesIn (now (copied .entry)) (now (work .entry)) w) (now (memory .entry)))
+        × (r ≡ sumOf (now (memory .exit))) ⌝ }
+{
+    let mut total = sum;
+    let mut p = 0;
+    while p < Page::COUNT {
+        total = commit_page(memory, work, copied, p, Page::COUNT * w + p, total);
+        p += 1;
+    }
+    total
+}
+
+// Whether a worker has a copy of any page. Each mark is read, so that all are read at once.
+fn any_copy(copied: &[bool; SLOTS], w: usize) -> bool
+    requires { ⌜ w < workersLimit ⌝ }
+    ensures { λ r. ⌜ r ≡ anyCopied (now (copied .entry)) w pageCount ⌝ }
+{
+    let mut any = false;
+    let mut p = 0;
+    while p < Page::COUNT {
+        any = any | copied[Page::COUNT * w + p];
+        p += 1;
+    }
+    any
+}
+
+// A worker's commit: shared memory gets what it changed, and its copies are dropped. The sum of shared memory's words goes in, and comes
+// back moved by as much.
+pub fn commit(memory: &mut [u8], work: &[u8], copied: &mut [bool; SLOTS], w: usize, sum: u32) -> u32
+    requires { ⌜ Lent (now memory) (now work) × (w < workersLimit) × (sum ≡ sumOf (now memory)) ⌝ }
+    ensures { λ r. ⌜ Committed w sum (now (copied .entry)) (now (work .entry)) (now (memory .entry)) r (now (copied .exit)) (now (memory .exit)) ⌝ }
+{
+    if !any_copy(copied, w) {
+        return sum;
+    }
+    let moved = commit_pages(memory, work, copied, w, sum);
+    discard(copied, w);
+    moved
+}
