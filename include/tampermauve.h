@@ -24,12 +24,13 @@
 extern "C" {
 #endif
 
-/* ---- The version of the library that this header fits. */
+/* ---- The version of the library that this header fits. A host that was compiled with a header of version 1 lends a report of 16
+ *      bytes, and its runs are refused with 11: compile it anew. */
 
-#define TAMPERMAUVE_VERSION_MAJOR 1
-#define TAMPERMAUVE_VERSION_MINOR 2
+#define TAMPERMAUVE_VERSION_MAJOR 2
+#define TAMPERMAUVE_VERSION_MINOR 0
 #define TAMPERMAUVE_VERSION_PATCH 0
-#define TAMPERMAUVE_VERSION "1.2.0"
+#define TAMPERMAUVE_VERSION "2.0.0"
 
 /* ---- What a call returns: refusal + 256 x index, where index is that of a record of the file, the plan record being 0.
  *      The index is 0 for the refusals 1, 11, 12 and 13. An accepted call returns 0. */
@@ -65,7 +66,7 @@ static inline uint32_t tampermauve_index(uint32_t returned) { return returned / 
 
 #define TAMPERMAUVE_MEMORY_LENGTH 2048u
 #define TAMPERMAUVE_LOG_LENGTH 8256u
-#define TAMPERMAUVE_REPORT_LENGTH 16u
+#define TAMPERMAUVE_REPORT_LENGTH 20u
 #define TAMPERMAUVE_WORK_LENGTH 32768u
 
 #define TAMPERMAUVE_FILE_LIMIT 7280u   /* the longest file that is not refused for its length: 1 + 8 + 7 + 8 x 128 records */
@@ -122,7 +123,7 @@ static inline uint32_t tampermauve_index(uint32_t returned) { return returned / 
 #define TAMPERMAUVE_OP_EXIT 38u      /* the number is 0 */
 #define TAMPERMAUVE_OP_START 39u     /* a worker below n */
 
-/* ---- The report: offsets of its parts. Two-byte numbers are low byte first. */
+/* ---- The report: offsets of its parts. Numbers of two bytes and of four are low byte first. */
 
 #define TAMPERMAUVE_REPORT_END 0u     /* one byte, an end code */
 #define TAMPERMAUVE_REPORT_WORKERS 1u /* one byte, n */
@@ -130,6 +131,9 @@ static inline uint32_t tampermauve_index(uint32_t returned) { return returned / 
 #define TAMPERMAUVE_REPORT_ROUNDS 4u  /* two bytes, the rounds completed */
 #define TAMPERMAUVE_REPORT_RECORDS 6u /* two bytes, the records in the log */
 #define TAMPERMAUVE_REPORT_FATES 8u   /* eight bytes, a fate code for each of workers 0 to 7 */
+#define TAMPERMAUVE_REPORT_SUM 16u    /* four bytes, low byte first: the sum of shared memory's 1,024 words at even addresses */
+
+#define TAMPERMAUVE_SUM_LIMIT 67107840u /* the greatest sum: 1,024 x 65,535 */
 
 /* end codes */
 #define TAMPERMAUVE_END_GOING 0u
@@ -168,6 +172,11 @@ static inline uint32_t tampermauve_index(uint32_t returned) { return returned / 
 /* The two-byte number at an offset of a report, or of a record of the file or of the log. */
 static inline uint32_t tampermauve_word(const uint8_t *bytes, size_t at) {
     return (uint32_t)bytes[at] + 256u * (uint32_t)bytes[at + 1u];
+}
+
+/* The sum in a report. What a worker has stored and not committed is not in it. */
+static inline uint32_t tampermauve_sum(const uint8_t *report) {
+    return tampermauve_word(report, TAMPERMAUVE_REPORT_SUM) + 65536u * tampermauve_word(report, TAMPERMAUVE_REPORT_SUM + 2u);
 }
 
 /* ---- How many turns end a plan
