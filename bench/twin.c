@@ -3,7 +3,8 @@
  * Steps are read straight from the file's records. Shared memory is the lent
  * memory itself, and the lent work buffer holds the workers' page copies with
  * their twins. For every worker there is a byte that says what a turn of it
- * may do, so that a turn that passes costs one look. */
+ * may do, so that a turn that passes costs one look. The sum of shared memory's
+ * words is worked out once, and then moved by each commit. */
 #include "twin.h"
 
 #include <string.h>
@@ -18,9 +19,10 @@ enum {
     PAGE = 256,
     PAGES = 8,
     MEMORY = PAGE * PAGES,
+    BLOCK = 64, /* of a page: what a commit looks at together */
     LOG = 8256,
     LOG_RECORD = 8,
-    REPORT = 16,
+    REPORT = 20,
     WORK = 32768
 };
 
@@ -308,6 +310,7 @@ struct engine {
     uint8_t may[MOST_WORKERS];
     struct worker workers[MOST_WORKERS];
     uint8_t *memory;
+    uint32_t sum;           /* of the memory's words at even addresses */
     uint8_t *log;
     unsigned log_fill;
     unsigned moves;
@@ -357,21 +360,68 @@ static void store(const struct engine *e, struct worker *w, unsigned at,
     page_to_write(e, w, above / PAGE)[above % PAGE] = (uint8_t)(value >> 8);
 }
 
-/* Writes the bytes of a page that differ from its twin, and no other. */
-static void commit_page(uint8_t *restrict shared, const uint8_t *restrict copy)
+/* The sum of the words in so many bytes. The low byte of a word comes first, as
+ * it does on the machines that the twin is built for. */
+static uint32_t sum_of(const uint8_t *bytes, unsigned len)
 {
-    const uint8_t *restrict twin = copy + PAGE;
-    for (unsigned i = 0; i < PAGE; i++)
-        shared[i] = copy[i] != twin[i] ? copy[i] : shared[i];
+    uint32_t sum = 0;
+    for (unsigned i = 0; i < len; i += sizeof(uint16_t)) {
+        uint16_t word;
+        memcpy(&word, bytes + i, sizeof word);
+        sum += word;
+    }
+    return sum;
 }
 
-static void commit(struct engine *e, struct worker *w)
+/* Whether a block has a byte that differs from its twin. */
+static int differs(const uint8_t *copy, const uint8_t *twin)
+{
+    uint64_t any = 0;
+    for (unsigned i = 0; i < BLOCK; i += sizeof any) {
+        uint64_t one, other;
+        memcpy(&one, copy + i, sizeof one);
+        memcpy(&other, twin + i, sizeof other);
+        any |= one ^ other;
+    }
+    return any != 0;
+}
+
+/* Writes the bytes of a block that differ from its twin, and no other. Gives by
+ * how much the sum moved, modulo 2^32. */
+static uint32_t commit_block(uint8_t *restrict shared,
+                             const uint8_t *restrict copy,
+                             const uint8_t *restrict twin)
+{
+    uint32_t before = sum_of(shared, BLOCK);
+    for (unsigned i = 0; i < BLOCK; i++)
+        shared[i] = copy[i] != twin[i] ? copy[i] : shared[i];
+    return sum_of(shared, BLOCK) - before;
+}
+
+static uint32_t commit_page(uint8_t *shared, const uint8_t *copy)
+{
+    const uint8_t *twin = copy + PAGE;
+    uint32_t moved = 0;
+    for (unsigned at = 0; at < PAGE; at += BLOCK)
+        if (differs(copy + at, twin + at))
+            moved += commit_block(shared + at, copy + at, twin + at);
+    return moved;
+}
+
+static void commit_copies(struct engine *e, struct worker *w)
 {
     unsigned left = w->copied;
     for (unsigned page = 0; left != 0; page++, left >>= 1)
         if (left & 1)
-            commit_page(e->memory + page * PAGE, copy_of(w, page));
+            e->sum += commit_page(e->memory + page * PAGE, copy_of(w, page));
     w->copied = 0;
+}
+
+/* Apart from the above, so that a step of a worker without copies costs a look. */
+static void commit(struct engine *e, struct worker *w)
+{
+    if (w->copied != 0)
+        commit_copies(e, w);
 }
 
 /* A step on registers or memory. */
@@ -648,6 +698,7 @@ static void start(struct engine *e, const struct plan *plan, const uint8_t *file
     memset(e, 0, sizeof *e);
     e->plan = plan;
     e->memory = memory;
+    e->sum = sum_of(memory, MEMORY);
     e->log = log;
     for (unsigned i = 0; i < plan->workers; i++) {
         struct worker *w = &e->workers[i];
@@ -685,6 +736,12 @@ static void put_two(uint8_t *to, unsigned number)
     to[1] = (uint8_t)(number >> 8);
 }
 
+static void put_four(uint8_t *to, uint32_t number)
+{
+    put_two(to, number & 65535);
+    put_two(to + 2, number >> 16);
+}
+
 static void fill_report(const struct engine *e, uint8_t *report)
 {
     report[0] = end_of(e);
@@ -695,6 +752,7 @@ static void fill_report(const struct engine *e, uint8_t *report)
     memset(report + 8, NO_WORKER, MOST_WORKERS);
     for (unsigned i = 0; i < e->plan->workers; i++)
         report[8 + i] = e->workers[i].fate;
+    put_four(report + 16, e->sum);
 }
 
 static int names_nobody(const uint8_t *turns, size_t turns_len, unsigned workers)
