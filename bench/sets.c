@@ -250,6 +250,24 @@ static void commit_set(void)
     moving_turns(c);
 }
 
+/* A value, a store of it into each 64 bytes of memory, and a signal that commits
+ * them: each part of a page changes, and each commit moves the sum. */
+static void sum_set(void)
+{
+    enum { APART = 64, STORES = TAMPERMAUVE_MEMORY_LENGTH / APART, PARTS = STORES + 2 };
+    struct set_case *c = set_of_one("commits that move the sum", WORKERS, 0);
+    for (unsigned i = 0; i < WORKERS * 3 * PARTS; i++) {
+        unsigned worker = i / (3 * PARTS), part = i % PARTS;
+        if (part == 0)
+            put(c, worker, SET_TO, 0, (i + PARTS) * 75);
+        else if (part == PARTS - 1)
+            put(c, worker, SIGNAL, 0, worker);
+        else
+            put(c, worker, STORE, 0, (part - 1) * APART + worker * 8);
+    }
+    moving_turns(c);
+}
+
 static void section_sets(void)
 {
     struct set_case *c = set_of_one("critical sections", WORKERS, 0);
@@ -276,8 +294,7 @@ static void meeting_sets(void)
     for (unsigned worker = 0; worker < WORKERS; worker++) {
         static const uint8_t ops[3] = {LOCK, WAIT, UNLOCK};
         for (unsigned i = 0; i < 126; i++)
-            put(c, worker, worker < 4 ? ops[i % 3] : i % 2 ? SIGNAL : BROADCAST,
-                0, worker % 4);
+            put(c, worker, worker < 4 ? ops[i % 3] : SIGNAL, 0, worker % 4);
     }
     moving_turns(c);
     c = set_of_one("barriers of all workers", WORKERS, 8);
@@ -437,6 +454,7 @@ unsigned make_sets(struct set *sets, int only)
     skip_set();
     page_sets();
     commit_set();
+    sum_set();
     section_sets();
     meeting_sets();
     broadcasts_set();
