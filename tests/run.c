@@ -1,6 +1,6 @@
 /* tampermauve_run on cases 1 to 10 of document 01, on plans with sleepers and starts and on plans with broadcasts, every byte of
- * every buffer compared, and on the refusals of a run. What is expected is worked out by hand from document 01, "Rounds", "Log and
- * report" and "Plans to check against", and from requests One and Two of document 02. */
+ * every buffer compared; on the sum that each commit moves; and on the refusals of a run. What is expected is worked out by hand from
+ * document 01, "Rounds", "Log and report" and "Plans to check against", and from requests One to Three of document 02. */
 #include <stdio.h>
 #include <stdlib.h>
 #include <string.h>
@@ -83,6 +83,22 @@ static void returns(const char *name, uint32_t got, uint32_t wanted) {
     }
 }
 
+/* Writes a four-byte number. */
+static void write_four(uint8_t *at, uint32_t number) {
+    plan_word(at, (unsigned)(number % 65536u));
+    plan_word(at + 2, (unsigned)(number / 65536u));
+}
+
+/* The sum of the words at even addresses, worked out afresh. */
+static uint32_t sum_afresh(const uint8_t *memory) {
+    uint32_t sum = 0;
+    unsigned address;
+    for (address = 0; address < MEMORY; address += 2) {
+        sum += tampermauve_word(memory, address);
+    }
+    return sum;
+}
+
 static void expect(const struct expected *e, const struct lent *l, unsigned workers) {
     uint8_t memory[MEMORY] = {0}, log[LOG] = {0}, report[REPORT] = {0};
     static const uint8_t work[WORK] = {0};
@@ -106,6 +122,7 @@ static void expect(const struct expected *e, const struct lent *l, unsigned work
     for (k = 0; k < workers; k++) {
         report[TAMPERMAUVE_REPORT_FATES + k] = (uint8_t)e->fates[k];
     }
+    write_four(report + TAMPERMAUVE_REPORT_SUM, sum_afresh(memory));
     same(e->name, "memory", l->memory, memory, MEMORY);
     same(e->name, "log", l->log, log, LOG);
     same(e->name, "report", l->report, report, REPORT);
@@ -1011,6 +1028,367 @@ static void broadcast_cases(struct plan_file *f) {
     woken_turns_cases(f);
 }
 
+/* The sum by the first turns of a list, from a starting memory: it is the one that was worked out by hand, and that of the memory
+ * which the run leaves. */
+static void sums(const char *name, const struct plan_file *f, const uint8_t *start, const uint8_t *turns, size_t length,
+                 uint32_t wanted) {
+    struct lent l = lend(60u + (unsigned)length);
+    uint8_t bytes[4];
+    memcpy(l.memory, start, MEMORY);
+    write_four(bytes, wanted);
+    returns(name,
+            tampermauve_run(f->bytes, f->length, turns, length, l.memory, MEMORY, l.log, LOG, l.report, REPORT, l.work, WORK), 0);
+    same(name, "the sum's bytes", l.report + TAMPERMAUVE_REPORT_SUM, bytes, sizeof bytes);
+    returns(name, tampermauve_sum(l.report), wanted);
+    returns(name, sum_afresh(l.memory), wanted);
+    take_back(&l);
+}
+
+/* The sum by each number of turns from one up to another. */
+static void sums_from(const char *name, const struct plan_file *f, const uint8_t *start, const uint8_t *turns, size_t first,
+                      size_t last, uint32_t wanted) {
+    size_t length;
+    for (length = first; length <= last; length++) {
+        sums(name, f, start, turns, length, wanted);
+    }
+}
+
+/* Turns of worker 0 alone. */
+static const uint8_t alone[80] = {0};
+
+/* Two workers go to the fence in three moves each, set, store and arrival, and then exit: worker 0 commits by turn 7 and worker 1 by
+ * turn 8. */
+static const uint8_t one_then_other[8] = {0, 0, 0, 1, 1, 1, 0, 1};
+
+static void sums_of_two(const char *name, struct plan_file *f, const uint8_t *start, const unsigned stored[2],
+                        const uint32_t wanted[3]) {
+    plan_begin(f, 2);
+    store(f, 0, stored[0]);
+    store(f, 1, stored[1]);
+    sums_from(name, f, start, one_then_other, 0, 6, wanted[0]);
+    sums(name, f, start, one_then_other, 7, wanted[1]);
+    sums(name, f, start, one_then_other, 8, wanted[2]);
+}
+
+/* Two workers store into the word at 0. A commit moves the sum by what it changes in shared memory, which may be another amount than
+ * the copy differs from its twin by. */
+static void one_word_sums(struct plan_file *f) {
+    uint8_t start[MEMORY] = {0};
+    /* 01 in the high byte, then 01 in the low one */
+    static const unsigned merged[2] = {256, 1};
+    static const uint32_t merged_sums[3] = {0, 256, 257};
+    /* the second commit writes what is there */
+    static const unsigned equal[2] = {7, 7};
+    static const uint32_t equal_sums[3] = {0, 7, 7};
+    /* the second commit writes another byte over the first one's: 4 - 9 */
+    static const unsigned over[2] = {9, 4};
+    static const uint32_t over_sums[3] = {0, 9, 4};
+    /* from 05 05: 09 into the high byte, then 02 into the low one */
+    static const unsigned from_five[2] = {0x0905, 0x0502};
+    static const uint32_t from_five_sums[3] = {1285, 2309, 2306};
+    /* from 05 05: all of it to 65,535, then the low byte back to zero, the high one being as in the twin */
+    static const unsigned there_and_back[2] = {65535, 0x0500};
+    static const uint32_t there_and_back_sums[3] = {1285, 65535, 65280};
+    /* from 05 05: the second worker stores what was there before, and commits nothing */
+    static const unsigned as_before[2] = {7, 1285};
+    static const uint32_t as_before_sums[3] = {1285, 7, 7};
+    sums_of_two("two bytes of a word", f, start, merged, merged_sums);
+    sums_of_two("a byte that is there", f, start, equal, equal_sums);
+    sums_of_two("a byte over another", f, start, over, over_sums);
+    plan_word(start, 1285);
+    sums_of_two("two bytes of a word that holds some", f, start, from_five, from_five_sums);
+    sums_of_two("a word and its low byte", f, start, there_and_back, there_and_back_sums);
+    sums_of_two("a word as it was before", f, start, as_before, as_before_sums);
+}
+
+/* One worker stores a word and exits: set, store, arrival, end. */
+static void sum_of_store(const char *name, struct plan_file *f, const uint8_t *start, unsigned value, unsigned address,
+                         uint32_t before, uint32_t after) {
+    plan_begin(f, 1);
+    store_at(f, 0, value, address);
+    sums_from(name, f, start, alone, 0, 3, before);
+    sums_from(name, f, start, alone, 4, 6, after);
+}
+
+/* 513 is 01 02. At an odd address the 01 is the high byte of one word and the 02 the low byte of the next: 256 + 2. 65,535 counts as
+ * much wherever it is. */
+static void address_sums(struct plan_file *f) {
+    uint8_t start[MEMORY] = {0};
+    sum_of_store("a store at 0", f, start, 513, 0, 0, 513);
+    sum_of_store("a store at 1", f, start, 513, 1, 0, 258);
+    sum_of_store("a store at 63, over a border of blocks", f, start, 513, 63, 0, 258);
+    sum_of_store("a store at 254", f, start, 513, 254, 0, 513);
+    sum_of_store("a store at 255, over a border of pages", f, start, 513, 255, 0, 258);
+    sum_of_store("a store at 256", f, start, 513, 256, 0, 513);
+    sum_of_store("a store at 511, over a border of pages", f, start, 513, 511, 0, 258);
+    sum_of_store("a store at 1,791, over a border of pages", f, start, 513, 1791, 0, 258);
+    sum_of_store("a store at 2,045", f, start, 513, 2045, 0, 258);
+    sum_of_store("a store at 2,046", f, start, 513, 2046, 0, 513);
+    sum_of_store("65,535 at 255", f, start, 65535, 255, 0, 65535);
+    sum_of_store("65,535 at 2,046", f, start, 65535, 2046, 0, 65535);
+    plan_begin(f, 1);
+    store_at(f, 0, 513, 255);
+    store_at(f, 0, 65535, 511);
+    sums_from("stores over two borders of pages", f, start, alone, 0, 5, 0);
+    sums("stores over two borders of pages", f, start, alone, 6, 65793); /* 258 + 65,535 */
+}
+
+/* The greatest sum is 1,024 x 65,535. */
+static void greatest_sums(struct plan_file *f) {
+    static const uint8_t bytes[4] = {0x00, 0xFC, 0xFF, 0x03};
+    uint8_t start[MEMORY], report[REPORT] = {0};
+    memset(start, 255, MEMORY);
+    memcpy(report + TAMPERMAUVE_REPORT_SUM, bytes, sizeof bytes);
+    returns("the greatest sum, read", tampermauve_sum(report), 67107840u);
+    plan_begin(f, 1);
+    sums("255 everywhere, no turns", f, start, alone, 0, 67107840u);
+    sums("255 everywhere, and an end", f, start, alone, 2, 67107840u);
+    /* - 65,535; - 255 x 256 - 255; - 256 */
+    sum_of_store("255 everywhere but a zero at 0", f, start, 0, 0, 67107840u, 67042305u);
+    sum_of_store("255 everywhere but a zero at 511", f, start, 0, 511, 67107840u, 67042305u);
+    sum_of_store("255 everywhere but 254 at 2,047", f, start, 65279, 2046, 67107840u, 67107584u);
+    memset(start, 0, 2);
+    memset(start + 2046, 0, 2);
+    plan_begin(f, 1);
+    store_at(f, 0, 65535, 0);
+    store_at(f, 0, 65535, 2046);
+    sums_from("up to the greatest sum", f, start, alone, 0, 5, 66976770u); /* 1,022 x 65,535 */
+    sums("up to the greatest sum", f, start, alone, 6, 67107840u);
+}
+
+/* A sum that falls to nothing; one that stays although memory changed; bytes that are as they were when they are committed. */
+static void falling_sums(struct plan_file *f) {
+    uint8_t start[MEMORY] = {0};
+    plan_word(start + 300, 65535);
+    sum_of_store("down to nothing", f, start, 0, 300, 65535, 0);
+    plan_word(start + 300, 20);
+    plan_word(start, 10);
+    plan_begin(f, 1);
+    store_at(f, 0, 20, 0);
+    store_at(f, 0, 10, 300);
+    sums_from("two words exchanged", f, start, alone, 0, 6, 30);
+    /* arrival, lock, set, store, start, which commits 10 more, set, store, unlock, which commits 10 less */
+    plan_begin(f, 1);
+    plan_sync(f, 0, TAMPERMAUVE_OP_LOCK, 0);
+    store_at(f, 0, 20, 0);
+    plan_sync(f, 0, TAMPERMAUVE_OP_START, 0);
+    store_at(f, 0, 10, 300);
+    plan_sync(f, 0, TAMPERMAUVE_OP_UNLOCK, 0);
+    sums_from("up and down", f, start, alone, 0, 4, 30);
+    sums_from("up and down", f, start, alone, 5, 7, 40);
+    sums_from("up and down", f, start, alone, 8, 10, 30);
+    plan_begin(f, 1);
+    store_at(f, 0, 999, 0);
+    store_at(f, 0, 10, 0);
+    sums_from("stored and stored back", f, start, alone, 0, 6, 30);
+}
+
+/* Steps that commit, each alone behind a store, and steps that fail there. */
+struct sync_case {
+    const char *name;
+    unsigned op, number; /* op 0: the end of the steps */
+    int locked;
+};
+
+/* Worker 0 stores 1,258 over the 1,000 at 0, with a lock or without, and makes the step; worker 1 sleeps. Barrier 0 is of two, 1 of
+ * one. Elsewhere there is 300 at 2,046. */
+static void store_and_sync(struct plan_file *f, const struct sync_case *c) {
+    plan_begin(f, 2);
+    plan_size(f, 0, 2);
+    plan_size(f, 1, 1);
+    plan_sleep(f, 1);
+    if (c->locked) {
+        plan_sync(f, 0, TAMPERMAUVE_OP_LOCK, 0);
+    }
+    store(f, 0, 1258);
+    if (c->op != 0) {
+        plan_sync(f, 0, c->op, c->number);
+    }
+}
+
+/* Without a lock: set, store, arrival; with one: arrival, lock, set, store. The next turn makes the step. */
+static void committing_sums(struct plan_file *f, const uint8_t *start) {
+    static const struct sync_case cases[] = {
+        {"a lock moves the sum", TAMPERMAUVE_OP_LOCK, 0, 0},
+        {"an unlock moves the sum", TAMPERMAUVE_OP_UNLOCK, 0, 1},
+        {"a wait moves the sum", TAMPERMAUVE_OP_WAIT, 0, 1},
+        {"a signal moves the sum", TAMPERMAUVE_OP_SIGNAL, 0, 0},
+        {"a signal with a lock moves the sum", TAMPERMAUVE_OP_SIGNAL, 0, 1},
+        {"a broadcast moves the sum", TAMPERMAUVE_OP_BROADCAST, 0, 0},
+        {"a broadcast with a lock moves the sum", TAMPERMAUVE_OP_BROADCAST, 0, 1},
+        {"a barrier that is not full moves the sum", TAMPERMAUVE_OP_BARRIER, 0, 0},
+        {"a full barrier moves the sum", TAMPERMAUVE_OP_BARRIER, 1, 0},
+        {"a start moves the sum", TAMPERMAUVE_OP_START, 1, 0},
+        {"a start with a lock moves the sum", TAMPERMAUVE_OP_START, 1, 1},
+        {"a start in vain moves the sum", TAMPERMAUVE_OP_START, 0, 0},
+        {"a start in vain with a lock moves the sum", TAMPERMAUVE_OP_START, 0, 1},
+        {"an exit moves the sum", TAMPERMAUVE_OP_EXIT, 0, 0},
+        {"the end moves the sum", 0, 0, 0},
+    };
+    size_t k;
+    for (k = 0; k < sizeof cases / sizeof *cases; k++) {
+        const struct sync_case *c = &cases[k];
+        size_t before = c->locked ? 4 : 3;
+        store_and_sync(f, c);
+        sums_from(c->name, f, start, alone, 0, before, 1300);
+        sums_from(c->name, f, start, alone, before + 1u, before + 4u, 1558);
+    }
+}
+
+/* What a failure loses was never in the sum. */
+static void failing_sums(struct plan_file *f, const uint8_t *start) {
+    static const struct sync_case cases[] = {
+        {"the sum, and a failed unlock", TAMPERMAUVE_OP_UNLOCK, 0, 0}, {"the sum, and a failed wait", TAMPERMAUVE_OP_WAIT, 0, 0},
+        {"the sum, and a failed barrier", TAMPERMAUVE_OP_BARRIER, 0, 1}, {"the sum, and a failed exit", TAMPERMAUVE_OP_EXIT, 0, 1},
+        {"the sum, and a failed end", 0, 0, 1},
+    };
+    size_t k;
+    for (k = 0; k < sizeof cases / sizeof *cases; k++) {
+        store_and_sync(f, &cases[k]);
+        sums_from(cases[k].name, f, start, alone, 0, 8, 1300);
+    }
+}
+
+/* A lock with a count and an unlock that leaves one commit nothing: arrival, lock, set, store, lock, unlock; the next unlock does. */
+static void inner_lock_sums(struct plan_file *f, const uint8_t *start) {
+    plan_begin(f, 1);
+    plan_sync(f, 0, TAMPERMAUVE_OP_LOCK, 0);
+    store(f, 0, 1258);
+    plan_sync(f, 0, TAMPERMAUVE_OP_LOCK, 1);
+    plan_sync(f, 0, TAMPERMAUVE_OP_UNLOCK, 1);
+    plan_sync(f, 0, TAMPERMAUVE_OP_UNLOCK, 0);
+    sums_from("the sum, and an inner lock", f, start, alone, 0, 6, 1300);
+    sums_from("the sum, and an inner lock", f, start, alone, 7, 9, 1558);
+}
+
+/* Worker 1 has stored 60,000 at 2 when worker 0's exit commits: that is not in the sum, and its own failure loses it. */
+static void others_sums(struct plan_file *f, const uint8_t *start) {
+    plan_begin(f, 2);
+    store(f, 0, 1258);
+    store_at(f, 1, 60000, 2);
+    plan_sync(f, 1, TAMPERMAUVE_OP_UNLOCK, 0);
+    sums_from("another worker's bytes", f, start, one_then_other, 0, 6, 1300);
+    sums_from("another worker's bytes", f, start, one_then_other, 7, 8, 1558);
+}
+
+/* Worker 1 has stored 1,258 before the fence and commits it by a step that reaches worker 0. */
+static void reaching_sums(struct plan_file *f, const uint8_t *start) {
+    /* arrival; set, store, arrival; lock, wait; the signal or broadcast */
+    static const uint8_t wakes[7] = {0, 1, 1, 1, 0, 0, 1};
+    /* arrival; set, store, arrival; the barrier of both */
+    static const uint8_t meets[6] = {0, 1, 1, 1, 0, 1};
+    unsigned op;
+    for (op = TAMPERMAUVE_OP_SIGNAL; op <= TAMPERMAUVE_OP_BROADCAST; op++) {
+        plan_begin(f, 2);
+        wait_with_lock(f, 0, 0);
+        store(f, 1, 1258);
+        plan_sync(f, 1, op, 0);
+        sums_from("the sum, and a waiter", f, start, wakes, 0, 6, 1300);
+        sums("the sum, and a waiter", f, start, wakes, 7, 1558);
+    }
+    plan_begin(f, 2);
+    plan_size(f, 0, 2);
+    plan_sync(f, 0, TAMPERMAUVE_OP_BARRIER, 0);
+    store(f, 1, 1258);
+    plan_sync(f, 1, TAMPERMAUVE_OP_BARRIER, 0);
+    sums_from("the sum, and a barrier of two", f, start, meets, 0, 5, 1300);
+    sums("the sum, and a barrier of two", f, start, meets, 6, 1558);
+}
+
+static void step_sums(struct plan_file *f) {
+    uint8_t start[MEMORY] = {0};
+    plan_word(start, 1000);
+    plan_word(start + 2046, 300);
+    committing_sums(f, start);
+    failing_sums(f, start);
+    inner_lock_sums(f, start);
+    others_sums(f, start);
+    reaching_sums(f, start);
+}
+
+/* A commit in each of twelve rounds: set, store, arrival, signal. The word at 0 is the round's number. */
+static void round_sums(struct plan_file *f) {
+    static const uint8_t start[MEMORY] = {0};
+    unsigned round;
+    plan_begin(f, 1);
+    for (round = 1; round <= 12; round++) {
+        store(f, 0, round);
+        plan_sync(f, 0, TAMPERMAUVE_OP_SIGNAL, 0);
+    }
+    for (round = 0; round <= 12; round++) {
+        sums_from("a commit in each round", f, start, alone, 4u * round, 4u * round + 3u, round);
+    }
+}
+
+/* Worker w stores 100 x (w + 1) at 290 x w, each into another page, and exits. Three moves of each to the fence, then the ends. */
+static void worker_sums(struct plan_file *f) {
+    static const uint8_t start[MEMORY] = {0};
+    static const uint32_t wanted[9] = {0, 100, 300, 600, 1000, 1500, 2100, 2800, 3600};
+    uint8_t turns[32];
+    unsigned k;
+    plan_begin(f, 8);
+    for (k = 0; k < 8; k++) {
+        store_at(f, k, 100u * (k + 1u), 290u * k);
+    }
+    for (k = 0; k < 32; k++) {
+        turns[k] = (uint8_t)(k % 8u);
+    }
+    for (k = 0; k <= 8; k++) {
+        sums("a commit of each worker", f, start, turns, 24u + k, wanted[k]);
+    }
+}
+
+/* A store into each 64 bytes of memory, the values rising by `value`: one commit moves the sum by 1 + 2 + .. + 32 = 528 times it. 64
+ * steps, arrival, end. */
+static void spread_sum(const char *name, struct plan_file *f, unsigned value, unsigned offset) {
+    static const uint8_t start[MEMORY] = {0};
+    unsigned k;
+    plan_begin(f, 1);
+    for (k = 0; k < MEMORY / 64; k++) {
+        store_at(f, 0, (k + 1u) * value, 64u * k + offset);
+    }
+    sums(name, f, start, alone, 65, 0);
+    sums(name, f, start, alone, 66, 528u * value);
+}
+
+static void spread_sums(struct plan_file *f) {
+    spread_sum("the first byte of each 64", f, 1, 0);
+    spread_sum("a byte in the middle of each 64", f, 1, 32);
+    spread_sum("the last byte but one of each 64", f, 1, 62);
+    spread_sum("the last byte of each 64", f, 256, 62);
+}
+
+/* What a report held before does not matter, and nothing is written behind it. */
+static void report_bytes(struct plan_file *f) {
+    static const uint8_t wanted[REPORT] = {1, 1, 4, 0, 1, 0, 1, 0, 1, 255, 255, 255, 255, 255, 255, 255, 0x39, 0x30, 0, 0};
+    unsigned content;
+    plan_begin(f, 1);
+    store_at(f, 0, 12345, 1000);
+    for (content = 0; content < 256; content += 85) {
+        struct lent l = lend(0);
+        uint8_t *room = fresh(REPORT + 12u, content), *rest = fresh(12, content);
+        returns("a report in a greater buffer",
+                tampermauve_run(f->bytes, f->length, alone, 9, l.memory, MEMORY, l.log, LOG, room, REPORT, l.work, WORK), 0);
+        same("a report in a greater buffer", "report", room, wanted, REPORT);
+        same("a report in a greater buffer", "the bytes behind", room + REPORT, rest, 12);
+        take_back(&l);
+        free(room);
+        free(rest);
+    }
+}
+
+static void sum_cases(struct plan_file *f) {
+    one_word_sums(f);
+    address_sums(f);
+    greatest_sums(f);
+    falling_sums(f);
+    step_sums(f);
+    round_sums(f);
+    worker_sums(f);
+    spread_sums(f);
+    report_bytes(f);
+}
+
 /* A refused run, with buffers of the lengths told: no byte of them is changed. */
 static void refused(const char *name, const struct plan_file *f, const uint8_t *turns, size_t turns_length, const size_t told[4],
                     uint32_t wanted) {
@@ -1055,6 +1433,27 @@ static void refusals(struct plan_file *f) {
     free(turns);
 }
 
+/* A report of another length is refused with 11, the 16 bytes that it had before it had a sum included. */
+static void report_refusals(struct plan_file *f) {
+    static const size_t lengths[] = {0, 15, 16, 19, 21};
+    size_t k;
+    race(f);
+    for (k = 0; k < sizeof lengths / sizeof *lengths; k++) {
+        struct lent l = lend(90), before = lend(90);
+        uint8_t *report = fresh(lengths[k] + 1u, 91), *kept = fresh(lengths[k] + 1u, 91);
+        returns("11, a report of another length",
+                tampermauve_run(f->bytes, f->length, alone, 4, l.memory, MEMORY, l.log, LOG, report, lengths[k], l.work, WORK), 11);
+        same("11, a report of another length", "memory", l.memory, before.memory, MEMORY);
+        same("11, a report of another length", "log", l.log, before.log, LOG);
+        same("11, a report of another length", "report", report, kept, lengths[k] + 1u);
+        same("11, a report of another length", "work", l.work, before.work, WORK);
+        take_back(&l);
+        take_back(&before);
+        free(report);
+        free(kept);
+    }
+}
+
 /* A sleep record of worker 0 is refused where the file is: behind 11 and 12, before 13. A turn that names a sleeper is none of 13. */
 static void sleep_refusals(struct plan_file *f) {
     static const size_t right[4] = {MEMORY, LOG, REPORT, WORK}, wrong[4] = {MEMORY, LOG, REPORT, WORK - 1};
@@ -1074,7 +1473,9 @@ int main(void) {
     token_cases(&f);
     sleeping_cases(&f);
     broadcast_cases(&f);
+    sum_cases(&f);
     refusals(&f);
+    report_refusals(&f);
     sleep_refusals(&f);
     printf("run: %u checks, %u failures\n", checks, failures);
     return failures == 0 ? 0 : 1;
