@@ -31,7 +31,9 @@ int host_read(const char *path, uint8_t *to, size_t len)
         return trouble(path, "cannot be opened");
     whole = fread(to, 1, len, in) == len && fgetc(in) == EOF && !ferror(in);
     fclose(in);
-    return whole ? 0 : trouble(path, "has another length");
+    if (!whole)
+        fprintf(stderr, "%s: is not a file of %zu bytes\n", path, len);
+    return !whole;
 }
 
 static int part_name(char *name, const char *prefix, const char *part)
@@ -164,4 +166,5 @@ void host_say_report(const struct host *h)
            (unsigned)tampermauve_word(report, TAMPERMAUVE_REPORT_RECORDS));
     for (unsigned worker = 0; worker < report[TAMPERMAUVE_REPORT_WORKERS]; worker++)
         printf("worker %u: %s\n", worker, fates[report[TAMPERMAUVE_REPORT_FATES + worker]]);
+    printf("sum of the words at even addresses: %lu\n", (unsigned long)tampermauve_sum(report));
 }

@@ -5,7 +5,9 @@
  *
  * The seed, above 0, settles the order: whole cycles to the end, each with
  * the workers in an order of its own. Ends with 0 if all is the same; 1 if
- * something differs or the plan is refused; 2 if a file is in trouble. */
+ * something differs or the plan is refused; 2 if a file is in trouble, as a
+ * report of 16 bytes is, which was kept before reports had a sum: the plan is
+ * to be approved anew. */
 #include <stdio.h>
 #include <stdlib.h>
 

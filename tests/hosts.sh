@@ -45,6 +45,11 @@ expect() {
     [ "$said" = "$text" ] || fail "$* printed: $said"
 }
 
+# The last command said this on standard error, and nothing else.
+complained() { # TEXT
+    [ "$(cat "$work/errors")" = "$1" ] || fail "said: $(cat "$work/errors")"
+}
+
 # A record: its mark, then worker, op, register and both bytes of the number.
 plan_record() {
     # shellcheck disable=SC2059
@@ -90,16 +95,35 @@ make_plans() {
     head -c 8000 /dev/zero > "$work/long"
 }
 
-report='finished: 26 moving turns, 3 rounds completed, 11 log records
+# The word at 255 ends as 2: its low byte counts 256 times.
+workers='finished: 26 moving turns, 3 rounds completed, 11 log records
 worker 0: exited
 worker 1: exited
 worker 2: exited'
+report="$workers
+sum of the words at even addresses: 512"
+
+# From a memory of 255 everywhere it goes from 65535 to 1: the byte at 255 falls
+# by 254 and the one at 256 by 255. 67107840 - 256 x 254 - 255.
+from_ones="$workers
+sum of the words at even addresses: 67042561"
 
 # Arrival, start and end of worker 0, arrival and end of worker 2.
 slept='finished: 5 moving turns, 2 rounds completed, 3 log records
 worker 0: exited
 worker 1: asleep
-worker 2: exited'
+worker 2: exited
+sum of the words at even addresses: 0'
+
+# Plans of plans/: each commit moves the sum by what it changes in shared memory.
+merged='finished: 12 moving turns, 1 rounds completed, 3 log records
+worker 0: exited
+worker 1: exited
+worker 2: exited
+sum of the words at even addresses: 257'
+fallen='finished: 11 moving turns, 2 rounds completed, 3 log records
+worker 0: failed
+sum of the words at even addresses: 256'
 
 test_hosts() { # FOLDER [RUNNER...]
     where=$work/$1
@@ -110,16 +134,35 @@ memory: the same
 log: the same
 report: the same" "$@" "$where/reprint" "$work/plan" "$where/kept" 7
     head -c 2048 /dev/zero | tr '\000' '\377' > "$where/ones"
-    expect 0 "$report" "$@" "$where/approve" "$work/plan" "$where/more" "$where/ones"
+    expect 0 "$from_ones" "$@" "$where/approve" "$work/plan" "$where/more" "$where/ones"
+    expect 0 "$from_ones
+memory: the same
+log: the same
+report: the same" "$@" "$where/reprint" "$work/plan" "$where/more" 5
     # A byte of each kept file changed must be told.
     printf '\001' | dd of="$where/kept.log" bs=1 seek=3 conv=notrunc status=none
     printf '\011' | dd of="$where/kept.memory" bs=1 seek=2047 conv=notrunc status=none
+    printf '\003' | dd of="$where/kept.report" bs=1 seek=19 conv=notrunc status=none
     expect 1 "$report
 memory: differs at byte 2047, 9 kept, 0 now
 log: differs at byte 3, 1 kept, 0 now
-report: the same" "$@" "$where/reprint" "$work/plan" "$where/kept" 8
+report: differs at byte 19, 3 kept, 0 now" "$@" "$where/reprint" "$work/plan" "$where/kept" 8
+    # So long was a report before it had a sum.
+    head -c 16 "$where/more.report" > "$where/short.report"
+    for part in start memory log; do cp "$where/more.$part" "$where/short.$part"; done
+    expect 2 "$from_ones
+memory: the same
+log: the same" "$@" "$where/reprint" "$work/plan" "$where/short" 8
+    complained "$where/short.report: is not a file of 20 bytes"
     expect 0 "stuck: 3 moving turns, 1 rounds completed, 2 log records
-worker 0: waiting on a condition" "$@" "$where/approve" "$work/stuck" "$where/stuck"
+worker 0: waiting on a condition
+sum of the words at even addresses: 0" "$@" "$where/approve" "$work/stuck" "$where/stuck"
+    expect 0 "$merged" "$@" "$where/approve" plans/merged-word.plan "$where/merged"
+    expect 0 "$merged
+memory: the same
+log: the same
+report: the same" "$@" "$where/reprint" plans/merged-word.plan "$where/merged" 11
+    expect 0 "$fallen" "$@" "$where/approve" plans/falling-sum.plan "$where/fallen"
     expect 0 "$slept" "$@" "$where/approve" "$work/sleeper" "$where/slept"
     expect 0 "$slept
 memory: the same
@@ -133,7 +176,8 @@ worker 3: asleep
 worker 4: asleep
 worker 5: asleep
 worker 6: asleep
-worker 7: asleep" "$@" "$where/approve" "$work/longest" "$where/longest"
+worker 7: asleep
+sum of the words at even addresses: 0" "$@" "$where/approve" "$work/longest" "$where/longest"
     expect 1 "refused 14 at record 1: a sleep record out of order, after a step or out of range" \
         "$@" "$where/approve" "$work/no_sleeper" "$where/none"
     expect 1 "refused 7 at record 1: an operand out of range" \
