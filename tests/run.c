@@ -1054,7 +1054,7 @@ static void sums_from(const char *name, const struct plan_file *f, const uint8_t
 }
 
 /* Turns of worker 0 alone. */
-static const uint8_t alone[80] = {0};
+static const uint8_t alone[70] = {0};
 
 /* Two workers go to the fence in three moves each, set, store and arrival, and then exit: worker 0 commits by turn 7 and worker 1 by
  * turn 8. */
@@ -1126,11 +1126,44 @@ static void address_sums(struct plan_file *f) {
     sum_of_store("a store at 2,046", f, start, 513, 2046, 0, 513);
     sum_of_store("65,535 at 255", f, start, 65535, 255, 0, 65535);
     sum_of_store("65,535 at 2,046", f, start, 65535, 2046, 0, 65535);
+    sum_of_store("the highest bit of a low byte", f, start, 128, 0, 0, 128);
+    sum_of_store("the highest bit of a high byte", f, start, 32768, 0, 0, 32768);
+}
+
+/* One commit of two words: set, store, set, store, arrival, end. */
+static void sum_of_stores(const char *name, struct plan_file *f, const unsigned value[2], const unsigned address[2], uint32_t after) {
+    static const uint8_t start[MEMORY] = {0};
     plan_begin(f, 1);
+    store_at(f, 0, value[0], address[0]);
+    store_at(f, 0, value[1], address[1]);
+    sums_from(name, f, start, alone, 0, 5, 0);
+    sums(name, f, start, alone, 6, after);
+}
+
+static void two_word_sums(struct plan_file *f) {
+    static const unsigned borders[2] = {255, 511}, beside[2] = {0, 8}, apart[2] = {0, 254}, over[2] = {0, 1};
+    static const unsigned some[2] = {513, 65535}, equal[2] = {7, 7}, most[2] = {65535, 65535}, ones[2] = {257, 257};
+    sum_of_stores("stores over two borders of pages", f, some, borders, 65793); /* 258 + 65,535 */
+    sum_of_stores("the same word twice", f, equal, beside, 14);
+    sum_of_stores("two words of a page", f, most, apart, 131070);
+    sum_of_stores("a store over half of another", f, ones, over, 258); /* 01 01 01: 257 + 1 */
+}
+
+/* Both workers copy page 2. Worker 0 commits its first byte, and worker 1, whose copy has that as it was, its last one: 256 + 2, then
+ * 6 x 256 + 5 more. Then the same of page 0, whose last byte worker 0 commits. */
+static void beside_sums(struct plan_file *f) {
+    static const uint8_t start[MEMORY] = {0};
+    plan_begin(f, 2);
+    store_at(f, 0, 513, 511);
+    store_at(f, 1, 1286, 767);
+    sums_from("a page that two have copied", f, start, one_then_other, 0, 6, 0);
+    sums("a page that two have copied", f, start, one_then_other, 7, 258);
+    sums("a page that two have copied", f, start, one_then_other, 8, 1799);
+    plan_begin(f, 2);
     store_at(f, 0, 513, 255);
-    store_at(f, 0, 65535, 511);
-    sums_from("stores over two borders of pages", f, start, alone, 0, 5, 0);
-    sums("stores over two borders of pages", f, start, alone, 6, 65793); /* 258 + 65,535 */
+    store_at(f, 1, 7, 100);
+    sums("the last byte of a page that two have copied", f, start, one_then_other, 7, 258);
+    sums("the last byte of a page that two have copied", f, start, one_then_other, 8, 265);
 }
 
 /* The greatest sum is 1,024 x 65,535. */
@@ -1154,6 +1187,25 @@ static void greatest_sums(struct plan_file *f) {
     store_at(f, 0, 65535, 2046);
     sums_from("up to the greatest sum", f, start, alone, 0, 5, 66976770u); /* 1,022 x 65,535 */
     sums("up to the greatest sum", f, start, alone, 6, 67107840u);
+}
+
+/* Each of eight workers stores zero, which its registers hold at first, all over a page of 255 everywhere: 128 stores and the arrival
+ * of each, then the ends. A commit of all bytes of a page moves the sum by 128 x 65,535. */
+static void erased_sums(struct plan_file *f) {
+    static const uint32_t wanted[9] = {67107840, 58719360, 50330880, 41942400, 33553920, 25165440, 16776960, 8388480, 0};
+    uint8_t start[MEMORY], turns[8 * 130];
+    unsigned k;
+    memset(start, 255, MEMORY);
+    plan_begin(f, 8);
+    for (k = 0; k < MEMORY; k += 2) {
+        plan_add(f, k / 256u, TAMPERMAUVE_OP_STORE, 0, k);
+    }
+    for (k = 0; k < sizeof turns; k++) {
+        turns[k] = (uint8_t)(k % 8u);
+    }
+    for (k = 0; k <= 8; k++) {
+        sums("all of memory", f, start, turns, 8u * 129u + k, wanted[k]);
+    }
 }
 
 /* A sum that falls to nothing; one that stays although memory changed; bytes that are as they were when they are committed. */
@@ -1380,7 +1432,10 @@ static void report_bytes(struct plan_file *f) {
 static void sum_cases(struct plan_file *f) {
     one_word_sums(f);
     address_sums(f);
+    two_word_sums(f);
+    beside_sums(f);
     greatest_sums(f);
+    erased_sums(f);
     falling_sums(f);
     step_sums(f);
     round_sums(f);
