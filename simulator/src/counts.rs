@@ -4,11 +4,13 @@
 mod board;
 mod limits;
 mod meeting;
+mod sums;
 mod waking;
 
 pub use board::{Board, Row};
 pub use limits::{Limit, Met, ROWS};
 pub use meeting::{Found, Hold, Joining, Meetings, Move, Sight, Stand};
+pub use sums::{Authors, By, Change, Place};
 pub use waking::{Waking, Woke};
 
 use crate::check::Step;

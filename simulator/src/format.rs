@@ -21,7 +21,11 @@ pub const MEMORY_LENGTH: usize = 2_048;
 /// Length of the lent log.
 pub const LOG_LENGTH: usize = 8_256;
 /// Length of the lent report.
-pub const REPORT_LENGTH: usize = 16;
+pub const REPORT_LENGTH: usize = 20;
+/// Where the eight fates begin in a report, and where behind them the sum of
+/// all words at even addresses does, four bytes, low byte first.
+pub const REPORT_FATES: usize = 8;
+pub const REPORT_SUM: usize = 16;
 /// Length of the lent work buffer.
 pub const WORK_LENGTH: usize = 32_768;
 

@@ -1,6 +1,6 @@
 //! What a run leaves.
 
-use crate::format::REPORT_LENGTH;
+use crate::format::{REPORT_LENGTH, REPORT_SUM};
 
 /// Memory, log (its records alone) and report after a run.
 #[derive(Clone, Debug, PartialEq, Eq)]
@@ -24,6 +24,13 @@ impl Outcome {
     /// The report's completed rounds.
     pub fn rounds(&self) -> u16 {
         u16::from_le_bytes([self.report[4], self.report[5]])
+    }
+
+    /// The report's sum of all words at even addresses.
+    pub fn sum(&self) -> u32 {
+        let mut bytes = [0; 4];
+        bytes.copy_from_slice(&self.report[REPORT_SUM..]);
+        u32::from_le_bytes(bytes)
     }
 
     /// The word at an address of the memory.

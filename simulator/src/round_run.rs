@@ -2,7 +2,8 @@
 //!
 //! Written apart from the turn machine. Workers carry no arrival flag, each
 //! condition and each barrier has its own queue, and the private bytes of a
-//! worker are cells by address in place of pages.
+//! worker are cells by address in place of pages. The sum of the words at even
+//! addresses is kept at each commit, where the turn machine works it out afresh.
 
 use std::collections::VecDeque;
 
@@ -38,6 +39,8 @@ enum Then {
 struct Rounds<'a> {
     plan: &'a Plan,
     memory: Vec<u8>,
+    /// The sum of all words of memory at even addresses.
+    sum: u32,
     seats: Vec<Seat>,
     list: VecDeque<usize>,
     next: VecDeque<usize>,
@@ -76,6 +79,7 @@ impl<'a> Rounds<'a> {
         Rounds {
             plan,
             memory: memory.to_vec(),
+            sum: (0..).zip(memory).map(|(at, &byte)| share(at, byte)).sum(),
             seats: (0..count).map(seat).collect(),
             list: (0..count).filter(|who| !sleeps(who)).collect(),
             next: VecDeque::new(),
@@ -198,11 +202,14 @@ impl<'a> Rounds<'a> {
         }
     }
 
+    /// A byte moves the sum by its difference from the shared one, which is
+    /// not that from its twin where somebody has committed in between.
     fn commit(&mut self, who: usize) {
         let cells = self.seats[who].cells.iter_mut();
-        for (cell, byte) in cells.zip(&mut self.memory) {
+        for (at, (cell, byte)) in cells.zip(&mut self.memory).enumerate() {
             if let Some(Cell { now, twin }) = cell.take() {
                 if now != twin {
+                    self.sum = self.sum - share(at, *byte) + share(at, now);
                     *byte = now;
                 }
             }
@@ -331,11 +338,21 @@ impl<'a> Rounds<'a> {
         }
         report.extend(self.seats.iter().map(|seat| seat.fate));
         report.resize(16, 255);
+        report.extend(self.sum.to_le_bytes());
         Outcome {
             memory: self.memory,
             log: self.log.concat(),
-            report: report.try_into().expect("sixteen bytes"),
+            report: report.try_into().expect("twenty bytes"),
         }
+    }
+}
+
+/// What a byte adds to the sum: at an odd address it is the high byte of its
+/// word.
+fn share(at: usize, byte: u8) -> u32 {
+    match at % 2 {
+        0 => u32::from(byte),
+        _ => 256 * u32::from(byte),
     }
 }
 

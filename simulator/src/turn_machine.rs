@@ -21,12 +21,16 @@
 //!   until that round; its fate is going from the start on.
 //! * A start never fails, whatever the count. A holder with count 0 that has
 //!   started somebody runs on, and a lock then commits again.
+//! * The report's sum is that of shared memory as it stands, whatever workers
+//!   have in their copies, after no turns too. It is worked out afresh here.
 
 use crate::check::{Plan, Step};
-use crate::counts::{Counts, Found, Hold, Joining, Move, Sight, Stand, Waking};
+use crate::counts::{
+    Authors, By, Change, Counts, Found, Hold, Joining, Move, Place, Sight, Stand, Waking,
+};
 use crate::format::{
     LOG_MARK, LOG_RECORD_LENGTH, MOST_WORKERS, OP_BROADCAST, OP_EXIT, OP_SIGNAL, OP_START,
-    REPORT_LENGTH,
+    REPORT_FATES, REPORT_LENGTH, REPORT_SUM,
 };
 use crate::outcome::Outcome;
 
@@ -65,6 +69,8 @@ struct Worker {
     known: [bool; 4],
     count: u8,
     copies: [Option<Box<PageCopy>>; PAGES],
+    /// Addresses of the stores into these copies; only counts need them.
+    stored: Vec<usize>,
     arrived: bool,
     fate: Fate,
 }
@@ -77,6 +83,7 @@ impl Worker {
             known: [false; 4],
             count: 0,
             copies: Default::default(),
+            stored: Vec::new(),
             arrived: false,
             fate,
         }
@@ -116,23 +123,39 @@ impl Worker {
         let [low, high] = word.to_le_bytes();
         self.write(shared, address, low);
         self.write(shared, address + 1, high);
+        self.stored.push(address);
     }
 
-    /// Writes every byte that differs from its twin and drops the copies. Says
-    /// how many bytes it wrote, which only counts need.
-    fn commit(&mut self, shared: &mut [u8]) -> usize {
-        let mut written = 0;
-        for (page, slot) in self.copies.iter_mut().enumerate() {
-            let Some(copy) = slot.take() else { continue };
-            let target = &mut shared[page * PAGE_SIZE..][..PAGE_SIZE];
-            for (offset, byte) in target.iter_mut().enumerate() {
-                if copy.working[offset] != copy.twin[offset] {
-                    *byte = copy.working[offset];
-                    written += 1;
+    /// Every byte that differs from its twin, beside the shared one.
+    fn changes(&self, shared: &[u8]) -> Vec<Change> {
+        let mut changes = Vec::new();
+        for (page, slot) in self.copies.iter().enumerate() {
+            let Some(copy) = slot else { continue };
+            for (offset, (&after, &twin)) in copy.working.iter().zip(&copy.twin).enumerate() {
+                let address = page * PAGE_SIZE + offset;
+                if after != twin {
+                    let before = shared[address];
+                    changes.push(Change {
+                        address,
+                        twin,
+                        before,
+                        after,
+                    });
                 }
             }
         }
-        written
+        changes
+    }
+
+    /// Writes every byte that differs from its twin and drops the copies. Says
+    /// what it wrote, which only counts need.
+    fn commit(&mut self, shared: &mut [u8]) -> Vec<Change> {
+        let changes = self.changes(shared);
+        for change in &changes {
+            shared[change.address] = change.after;
+        }
+        self.drop_copies();
+        changes
     }
 
     /// What counts need to know of a step on registers or memory.
@@ -146,6 +169,7 @@ impl Worker {
 
     fn drop_copies(&mut self) {
         self.copies = Default::default();
+        self.stored.clear();
     }
 
     /// Carries out a step that does not synchronise.
@@ -215,6 +239,8 @@ pub struct Machine<'a> {
     hold: Hold,
     joined: Option<Joining>,
     came: usize,
+    /// Who wrote which byte last; only counts need it.
+    authors: Authors,
 }
 
 impl<'a> Machine<'a> {
@@ -244,6 +270,7 @@ impl<'a> Machine<'a> {
             first: first_records(plan),
             hold: Hold::default(),
             joined: None,
+            authors: Authors::default(),
         }
     }
 
@@ -387,6 +414,8 @@ impl<'a> Machine<'a> {
             .behind_start(stand, step.op, hold, copied);
         let (outcome, token) = if self.fails(worker, step.op) {
             self.counts.limits.failed(stand, step.op);
+            let lost = self.workers[worker].changes(&self.shared);
+            self.counts.limits.lost(stand, step.op, &lost);
             self.fail(worker)
         } else {
             self.workers[worker].place += 1;
@@ -424,17 +453,26 @@ impl<'a> Machine<'a> {
         }
     }
 
-    fn commit(&mut self, worker: usize) {
+    fn commit(&mut self, worker: usize, by: By) {
         let copied = self.workers[worker].has_copies();
+        let stored = std::mem::take(&mut self.workers[worker].stored);
         let written = self.workers[worker].commit(&mut self.shared);
         if copied {
-            self.counts.limits.committed(written);
+            let limits = &mut self.counts.limits;
+            limits.committed(written.len());
+            limits.commits(by, &stored, &written);
+            self.authors.write(limits, worker, self.rounds, &written);
         }
+    }
+
+    /// One of two ways to commit, the second one with a count above 0.
+    fn by_count(&self, worker: usize, ways: [By; 2]) -> By {
+        ways[usize::from(self.workers[worker].count > 0)]
     }
 
     fn lock(&mut self, worker: usize) -> (u8, Token) {
         if self.workers[worker].count == 0 {
-            self.commit(worker);
+            self.commit(worker, By::Lock);
         }
         self.workers[worker].count += 1;
         self.counts.limits.counted(32, self.workers[worker].count);
@@ -448,12 +486,12 @@ impl<'a> Machine<'a> {
         if count > 0 {
             return (count, Token::Keep);
         }
-        self.commit(worker);
+        self.commit(worker, By::Unlock);
         (0, Token::GiveUp)
     }
 
     fn wait(&mut self, worker: usize, condition: u16) -> (u8, Token) {
-        self.commit(worker);
+        self.commit(worker, By::Wait);
         self.counts.limits.waits(self.workers[worker].count);
         self.workers[worker].fate = Fate::OnCondition;
         self.parked.push((Spot::Condition(condition), worker));
@@ -461,7 +499,7 @@ impl<'a> Machine<'a> {
     }
 
     fn signal(&mut self, worker: usize, condition: u16) -> (u8, Token) {
-        self.commit(worker);
+        self.commit(worker, self.by_count(worker, By::SIGNAL));
         let spot = Spot::Condition(condition);
         let first = self.parked.iter().position(|&(at, _)| at == spot);
         let woken = first.map(|position| self.parked.remove(position).1);
@@ -472,7 +510,7 @@ impl<'a> Machine<'a> {
     }
 
     fn broadcast(&mut self, worker: usize, condition: u16) -> (u8, Token) {
-        self.commit(worker);
+        self.commit(worker, self.by_count(worker, By::BROADCAST));
         let spot = Spot::Condition(condition);
         let (waiters, kept): (Vec<_>, Vec<_>) = self.parked.iter().partition(|(at, _)| *at == spot);
         self.parked = kept;
@@ -515,15 +553,16 @@ impl<'a> Machine<'a> {
     }
 
     fn barrier(&mut self, worker: usize, barrier: u16) -> (u8, Token) {
-        self.commit(worker);
         let size = self.plan.barrier_sizes[usize::from(barrier)].unwrap_or(1);
         let spot = Spot::Barrier(barrier);
         let queued = self.parked.iter().filter(|(at, _)| *at == spot).count();
         if queued + 1 < usize::from(size) {
+            self.commit(worker, By::QueuedBarrier);
             self.workers[worker].fate = Fate::AtBarrier;
             self.parked.push((spot, worker));
             return (0, Token::Leave);
         }
+        self.commit(worker, By::FullBarrier);
         let (freed, kept): (Vec<_>, Vec<_>) = self.parked.iter().partition(|(at, _)| *at == spot);
         self.parked = kept;
         for (_, each) in freed {
@@ -534,9 +573,10 @@ impl<'a> Machine<'a> {
     }
 
     fn start(&mut self, worker: usize, target: usize) -> (u8, Token) {
-        self.commit(worker);
-        let count = self.workers[worker].count;
         let found = self.found(target);
+        let ways = found.map_or(By::START, |_| By::START_OF_NO_SLEEPER);
+        self.commit(worker, self.by_count(worker, ways));
+        let count = self.workers[worker].count;
         self.counts.limits.starts(count, found);
         self.hold.any = true;
         if self.workers[target].fate != Fate::Asleep {
@@ -557,7 +597,10 @@ impl<'a> Machine<'a> {
     }
 
     fn exit(&mut self, worker: usize) -> (u8, Token) {
-        self.commit(worker);
+        // The place has gone on already.
+        let end = self.workers[worker].place > self.plan.steps[worker].len();
+        let by = if end { By::EndOfSteps } else { By::Exit };
+        self.commit(worker, by);
         self.workers[worker].fate = Fate::Exited;
         (NOBODY, Token::Leave)
     }
@@ -616,14 +659,36 @@ impl<'a> Machine<'a> {
         report[2..4].copy_from_slice(&self.moves.to_le_bytes());
         report[4..6].copy_from_slice(&self.rounds.to_le_bytes());
         report[6..8].copy_from_slice(&records.to_le_bytes());
-        for (slot, worker) in report[REPORT_LENGTH - MOST_WORKERS..]
-            .iter_mut()
-            .zip(&self.workers)
-        {
+        let fates = report[REPORT_FATES..REPORT_SUM].iter_mut();
+        for (slot, worker) in fates.zip(&self.workers) {
             *slot = fate_byte(worker.fate);
         }
+        report[REPORT_SUM..].copy_from_slice(&sum_of_words(&self.shared).to_le_bytes());
         report
     }
+
+    /// Notes the bytes that nobody has committed yet.
+    fn note_uncommitted(&mut self) {
+        let full = self.list.iter().all(|&each| self.workers[each].arrived);
+        for (behind, &each) in self.list.iter().enumerate() {
+            let worker = &self.workers[each];
+            let place = match (full, behind, worker.arrived) {
+                (true, 0, _) if worker.count > 0 => Place::HoldsWithCount,
+                (true, 0, _) => Place::Holds,
+                (true, ..) => Place::BehindHolder,
+                (false, _, true) => Place::AtFence,
+                (false, _, false) => Place::BeforeFence,
+            };
+            let changes = worker.changes(&self.shared);
+            self.counts.limits.uncommitted(place, &changes);
+        }
+    }
+}
+
+/// The sum of all words at even addresses, low byte first.
+fn sum_of_words(shared: &[u8]) -> u32 {
+    let word = |pair: &[u8]| u32::from(u16::from_le_bytes([pair[0], pair[1]]));
+    shared.chunks_exact(2).map(word).sum()
 }
 
 /// Behind the plan record come those of the barriers and of the sleepers, then
@@ -662,5 +727,6 @@ pub fn play_counted(plan: &Plan, memory: &[u8], turns: &[u8]) -> (Outcome, Count
     }
     let last_moved = machine.last_moved;
     machine.counts.limits.played(turns.len(), last_moved);
+    machine.note_uncommitted();
     (machine.outcome(), machine.counts)
 }

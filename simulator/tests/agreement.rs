@@ -1,9 +1,11 @@
 //! Whatever turn list reaches the end, memory, log and report are those of
 //! the round-by-round run; an unfinished run's log begins the full log.
 
+use std::cmp::Ordering;
+
 use simulator::format::{LOG_LENGTH, RECORD_LENGTH};
 use simulator::generate::buffers::memory;
-use simulator::generate::last_turn::last_turn_moves;
+use simulator::generate::last_turn::{cut_moves, last_turn_moves};
 use simulator::generate::{plan, turns, Draft, PlanKind, Rng, Scenarios, TurnKind};
 use simulator::{check, play_rounds, play_turns, Outcome, Plan};
 
@@ -140,6 +142,29 @@ fn broadcast_plans() {
         }
     }
     assert!(woken.iter().all(|&count| count > 20), "{woken:?}");
+}
+
+/// Runs whose sum rises, falls, and stays though memory changes.
+#[test]
+fn sum_plans() {
+    let mut rng = Rng::new(27);
+    let mut ways = [0; 3];
+    for _ in 0..250 {
+        let draft = plan(&mut rng, PlanKind::Sums);
+        compare(&mut rng, &draft, &TurnKind::CHEAP);
+        let read = check(&draft.file()).expect("an accepted plan");
+        let start = memory(&mut rng);
+        let before = play_turns(&read, &start, &[]).sum();
+        let list = cut_moves(&mut rng, &draft, &start);
+        let outcome = play_turns(&read, &start, &list);
+        let way = match outcome.sum().cmp(&before) {
+            Ordering::Less => 0,
+            Ordering::Equal => 1,
+            Ordering::Greater => 2,
+        };
+        ways[way] += usize::from(outcome.memory != start);
+    }
+    assert!(ways.iter().all(|&count| count > 5), "{ways:?}");
 }
 
 #[test]

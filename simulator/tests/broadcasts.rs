@@ -2,7 +2,7 @@
 
 mod common;
 
-use common::{end_of, report, run_call, Row};
+use common::{end_of, front, report, run_call, Row};
 use simulator::format::MEMORY_LENGTH;
 use simulator::generate::draft::Draft;
 use simulator::generate::Rng;
@@ -21,7 +21,7 @@ fn draft(rows: &[Row]) -> Draft {
 /// Both runs give this text, and this report.
 fn lists(draft: &Draft, text: &str, bytes: [u8; 16]) {
     assert_eq!(listing(&draft.file()), text);
-    assert_eq!(end_of(draft, &[]).report, bytes);
+    assert_eq!(front(&end_of(draft, &[])), bytes);
 }
 
 #[test]
@@ -55,7 +55,7 @@ fn a_file_and_all_that_it_leaves() {
     assert_eq!(outcome.log, log.concat());
     let no = 255;
     let bytes = [1, 3, 16, 0, 2, 0, 10, 0, 1, 1, 1, no, no, no, no, no];
-    assert_eq!(outcome.report, bytes);
+    assert_eq!(front(&outcome), bytes);
 }
 
 #[test]
@@ -80,7 +80,7 @@ fn four_waiters_none_sleeps_on() {
     let rows: [Row; 5] = [LOCKED, WAITS, WAITS, WAITS, WAITS];
     // The broadcast comes before the waits, reaches nobody, and all four stay.
     let early = end_of(&draft(&rows), &[]);
-    assert_eq!(early.report, report([2, 5], [18, 2, 12], &[1, 3, 3, 3, 3]));
+    assert_eq!(front(&early), report([2, 5], [18, 2, 12], &[1, 3, 3, 3, 3]));
     // A round later it reaches all four of them.
     let late: Row = &[(35, 0, 7), (36, 0, 0)];
     let rows: [Row; 5] = [late, WAITS, WAITS, WAITS, WAITS];
@@ -349,13 +349,13 @@ fn turn_by_turn() {
         assert_eq!(machine.turn(turn), moved == 1);
     }
     let bytes = report([1, 3], [16, 2, 10], &[1, 1, 1]);
-    assert_eq!(machine.outcome().report, bytes);
+    assert_eq!(front(&machine.outcome()), bytes);
     // What a run of the call leaves just before and just behind the broadcast.
     let rows: [Row; 3] = [WAITS, WAITS, BROADCASTS];
     let before = run_call(&draft(&rows), &turns.map(|turn| turn as u8)[..8], &[]);
-    assert_eq!(before.report, report([0, 3], [7, 0, 4], &[3, 3, 0]));
+    assert_eq!(front(&before), report([0, 3], [7, 0, 4], &[3, 3, 0]));
     let behind = run_call(&draft(&rows), &turns.map(|turn| turn as u8)[..9], &[]);
-    assert_eq!(behind.report, report([0, 3], [8, 0, 5], &[0, 0, 0]));
+    assert_eq!(front(&behind), report([0, 3], [8, 0, 5], &[0, 0, 0]));
     assert_eq!(behind.log[32..], [0x4D, 0x4C, 1, 0, 2, 36, 0, 2]);
 }
 

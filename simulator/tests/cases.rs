@@ -3,7 +3,7 @@
 
 mod common;
 
-use common::{end_of, report, run_call, Row};
+use common::{end_of, front, report, run_call, Row};
 use simulator::format::{LOG_LENGTH, MEMORY_LENGTH};
 use simulator::generate::draft::Draft;
 use simulator::generate::{plan, PlanKind, Rng};
@@ -21,7 +21,7 @@ fn case_01_race() {
     let outcome = end_of(&race(), &[]);
     assert_eq!(outcome.memory[..4], [1, 0, 1, 0]);
     assert!(outcome.memory[4..].iter().all(|&byte| byte == 0));
-    assert_eq!(outcome.report, report([1, 2], [12, 1, 2], &[1, 1]));
+    assert_eq!(front(&outcome), report([1, 2], [12, 1, 2], &[1, 1]));
     let bytes = [
         0x4D, 0x4C, 1, 0, 0, 38, 0, 255, //
         0x4D, 0x4C, 1, 0, 1, 38, 0, 255,
@@ -36,7 +36,7 @@ fn case_02_bytes_not_words() {
     let rows: [Row; 2] = [&[(16, 0, 256), (18, 0, 0)], &[(16, 0, 1), (18, 0, 0)]];
     let outcome = end_of(&Draft::from_rows(&[], &rows), &[]);
     assert_eq!(outcome.word(0), 257);
-    assert_eq!(outcome.report, report([1, 2], [8, 1, 2], &[1, 1]));
+    assert_eq!(front(&outcome), report([1, 2], [8, 1, 2], &[1, 1]));
 }
 
 #[test]
@@ -44,7 +44,7 @@ fn case_03_only_bytes_that_differ() {
     let rows: [Row; 2] = [&[(16, 0, 7), (18, 0, 0)], &[(16, 0, 5), (18, 0, 0)]];
     let outcome = end_of(&Draft::from_rows(&[], &rows), &[(0, 5)]);
     assert_eq!(outcome.word(0), 7);
-    assert_eq!(outcome.report, report([1, 2], [8, 1, 2], &[1, 1]));
+    assert_eq!(front(&outcome), report([1, 2], [8, 1, 2], &[1, 1]));
 }
 
 #[test]
@@ -60,7 +60,7 @@ fn case_04_locked_sums() {
     let draft = Draft::from_rows(&[], &[own, own]);
     let outcome = end_of(&draft, &[]);
     assert_eq!(outcome.word(0), 2);
-    assert_eq!(outcome.report, report([1, 2], [18, 2, 6], &[1, 1]));
+    assert_eq!(front(&outcome), report([1, 2], [18, 2, 6], &[1, 1]));
     let text = "1 0 32 0 1\n1 0 33 0 0\n1 1 32 0 1\n1 1 33 0 0\n\
                 2 0 38 0 255\n2 1 38 0 255\nfinished 18\n";
     assert_eq!(listing(&draft.file()), text);
@@ -71,14 +71,14 @@ fn case_05_sums_without_locks() {
     let own: Row = &[(17, 0, 0), (16, 1, 1), (19, 0, 1), (18, 0, 0)];
     let outcome = end_of(&Draft::from_rows(&[], &[own, own]), &[]);
     assert_eq!(outcome.word(0), 1);
-    assert_eq!(outcome.report, report([1, 2], [12, 1, 2], &[1, 1]));
+    assert_eq!(front(&outcome), report([1, 2], [12, 1, 2], &[1, 1]));
 }
 
 #[test]
 fn case_06_wait_alone() {
     let draft = Draft::from_rows(&[], &[&[(32, 0, 0), (34, 0, 0)]]);
     let outcome = end_of(&draft, &[]);
-    assert_eq!(outcome.report, report([2, 1], [3, 1, 2], &[3]));
+    assert_eq!(front(&outcome), report([2, 1], [3, 1, 2], &[3]));
     let text = "1 0 32 0 1\n1 0 34 0 255\nstuck 3\n";
     assert_eq!(listing(&draft.file()), text);
 }
@@ -86,11 +86,11 @@ fn case_06_wait_alone() {
 #[test]
 fn case_07_unlock_fails() {
     let bare = end_of(&Draft::from_rows(&[], &[&[(18, 0, 0), (33, 0, 0)]]), &[]);
-    assert_eq!(bare.report, report([1, 1], [3, 1, 1], &[2]));
+    assert_eq!(front(&bare), report([1, 1], [3, 1, 1], &[2]));
     let draft = Draft::from_rows(&[], &[&[(16, 0, 9), (18, 0, 0), (33, 0, 0)]]);
     let outcome = end_of(&draft, &[]);
     assert!(outcome.memory.iter().all(|&byte| byte == 0));
-    assert_eq!(outcome.report, report([1, 1], [4, 1, 1], &[2]));
+    assert_eq!(front(&outcome), report([1, 1], [4, 1, 1], &[2]));
     assert_eq!(listing(&draft.file()), "1 0 33 0 254\nfinished 4\n");
 }
 
@@ -98,7 +98,7 @@ fn case_07_unlock_fails() {
 fn case_08_barrier_of_two() {
     let draft = Draft::from_rows(&[(0, 2)], &[&[(37, 0, 0)], &[(37, 0, 0)]]);
     assert_eq!(
-        end_of(&draft, &[]).report,
+        front(&end_of(&draft, &[])),
         report([1, 2], [8, 2, 4], &[1, 1])
     );
     let text = "1 0 37 0 0\n1 1 37 0 2\n2 0 38 0 255\n2 1 38 0 255\nfinished 8\n";
@@ -111,7 +111,7 @@ fn case_09_signal_within_the_round() {
     let signals: Row = &[(32, 0, 0), (35, 0, 0), (33, 0, 0)];
     let draft = Draft::from_rows(&[], &[waits, signals]);
     assert_eq!(
-        end_of(&draft, &[]).report,
+        front(&end_of(&draft, &[])),
         report([1, 2], [12, 2, 8], &[1, 1])
     );
     let text = "1 0 32 0 1\n1 0 34 0 255\n1 1 32 0 1\n1 1 35 0 0\n1 1 33 0 0\n\
@@ -124,7 +124,7 @@ fn case_10_no_turns() {
     let outcome = run_call(&race(), &[], &[]);
     assert!(outcome.log.is_empty());
     assert!(outcome.memory.iter().all(|&byte| byte == 0));
-    assert_eq!(outcome.report, report([0, 2], [0, 0, 0], &[0, 0]));
+    assert_eq!(front(&outcome), report([0, 2], [0, 0, 0], &[0, 0]));
 }
 
 #[test]
@@ -168,7 +168,7 @@ fn broadcast_wakes_everybody() {
     let waits: Row = &[(32, 0, 0), (34, 0, 0), (33, 0, 0)];
     let draft = Draft::from_rows(&[], &[waits, waits, &[(36, 0, 0)]]);
     let outcome = end_of(&draft, &[]);
-    assert_eq!(outcome.report, report([1, 3], [16, 2, 10], &[1, 1, 1]));
+    assert_eq!(front(&outcome), report([1, 3], [16, 2, 10], &[1, 1, 1]));
     let text = "1 0 32 0 1\n1 0 34 0 255\n1 1 32 0 1\n1 1 34 0 255\n1 2 36 0 2\n\
                 1 0 33 0 0\n1 1 33 0 0\n2 2 38 0 255\n2 0 38 0 255\n2 1 38 0 255\n\
                 finished 16\n";
@@ -180,7 +180,7 @@ fn barriers_of_other_sizes() {
     let own: Row = &[(37, 0, 4)];
     let above = Draft::from_rows(&[(4, 3)], &[own, own]);
     assert_eq!(
-        end_of(&above, &[]).report,
+        front(&end_of(&above, &[])),
         report([2, 2], [4, 1, 2], &[4, 4])
     );
     let one = Draft::from_rows(&[(4, 1)], &[own]);
@@ -190,7 +190,7 @@ fn barriers_of_other_sizes() {
     );
     let below = Draft::from_rows(&[(4, 2)], &[own, own, own]);
     let outcome = end_of(&below, &[]);
-    assert_eq!(outcome.report, report([2, 3], [10, 2, 5], &[1, 1, 4]));
+    assert_eq!(front(&outcome), report([2, 3], [10, 2, 5], &[1, 1, 4]));
     let text = "1 0 37 4 0\n1 1 37 4 2\n1 2 37 4 0\n2 0 38 0 255\n2 1 38 0 255\n";
     assert_eq!(log_lines(&outcome.log), text);
 }
@@ -302,7 +302,7 @@ fn turn_by_turn() {
         assert_eq!(machine.turn(turn), moved == 1);
     }
     let outcome = machine.outcome();
-    assert_eq!(outcome.report, report([1, 2], [10, 2, 6], &[1, 1]));
+    assert_eq!(front(&outcome), report([1, 2], [10, 2, 6], &[1, 1]));
 }
 
 #[test]
@@ -310,5 +310,8 @@ fn the_longest_log_fits() {
     let signals = [(35, 0, 0); 128];
     let outcome = end_of(&Draft::from_rows(&[], &[&signals[..]; 8]), &[]);
     assert_eq!(outcome.log.len(), LOG_LENGTH);
-    assert_eq!(outcome.report, report([1, 8], [2_064, 129, 1_032], &[1; 8]));
+    assert_eq!(
+        front(&outcome),
+        report([1, 8], [2_064, 129, 1_032], &[1; 8])
+    );
 }

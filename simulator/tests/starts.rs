@@ -3,7 +3,7 @@
 
 mod common;
 
-use common::{end_of, report, run_call, Row};
+use common::{end_of, front, report, run_call, Row};
 use simulator::format::MEMORY_LENGTH;
 use simulator::generate::draft::Draft;
 use simulator::generate::Rng;
@@ -44,7 +44,7 @@ fn a_file_and_all_that_it_leaves() {
     let bytes = [
         1, 2, 9, 0, 2, 0, 3, 0, 1, 1, none, none, none, none, none, none,
     ];
-    assert_eq!(outcome.report, bytes);
+    assert_eq!(front(&outcome), bytes);
     let written = [(1, 9), (256, 9)];
     for (address, &byte) in outcome.memory.iter().enumerate() {
         let here = written.iter().find(|(at, _)| *at == address);
@@ -58,27 +58,27 @@ fn nobody_is_ever_started() {
     let other: Row = &[(16, 0, 9), (18, 0, 0)];
     let plan = draft(&[own, other], &[1]);
     let outcome = end_of(&plan, &[]);
-    assert_eq!(outcome.report, report([1, 2], [4, 1, 1], &[1, 5]));
+    assert_eq!(front(&outcome), report([1, 2], [4, 1, 1], &[1, 5]));
     assert_eq!(outcome.word(0), 7);
     assert_eq!(listing(&plan.file()), "1 0 38 0 255\nfinished 4\n");
     // A sleeper makes no plan stuck, and it frees none that is.
     let waits = draft(&[&[(32, 0, 0), (34, 0, 0)], NONE, NONE], &[1, 2]);
     let outcome = end_of(&waits, &[]);
-    assert_eq!(outcome.report, report([2, 3], [3, 1, 2], &[3, 5, 5]));
+    assert_eq!(front(&outcome), report([2, 3], [3, 1, 2], &[3, 5, 5]));
     assert_eq!(
         listing(&waits.file()),
         "1 0 32 0 1\n1 0 34 0 255\nstuck 3\n"
     );
     let fails = draft(&[&[(33, 0, 0)], NONE], &[1]);
     let outcome = end_of(&fails, &[]);
-    assert_eq!(outcome.report, report([1, 2], [2, 1, 1], &[2, 5]));
+    assert_eq!(front(&outcome), report([1, 2], [2, 1, 1], &[2, 5]));
 }
 
 #[test]
 fn the_first_list_is_of_those_awake() {
     let plan = draft(&[NONE; 5], &[1, 3]);
     let outcome = end_of(&plan, &[]);
-    assert_eq!(outcome.report, report([1, 5], [6, 1, 3], &[1, 5, 1, 5, 1]));
+    assert_eq!(front(&outcome), report([1, 5], [6, 1, 3], &[1, 5, 1, 5, 1]));
     let text = "1 0 38 0 255\n1 2 38 0 255\n1 4 38 0 255\nfinished 6\n";
     assert_eq!(listing(&plan.file()), text);
 }
@@ -87,7 +87,7 @@ fn the_first_list_is_of_those_awake() {
 fn a_worker_is_started_twice() {
     let plan = draft(&[&[(39, 0, 1), (39, 0, 1)], NONE], &[1]);
     let outcome = end_of(&plan, &[]);
-    assert_eq!(outcome.report, report([1, 2], [6, 2, 4], &[1, 1]));
+    assert_eq!(front(&outcome), report([1, 2], [6, 2, 4], &[1, 1]));
     let text = "1 0 39 1 1\n1 0 39 1 253\n1 0 38 0 255\n2 1 38 0 255\nfinished 6\n";
     assert_eq!(listing(&plan.file()), text);
     // Once more by another worker of the same round, and in a later round.
@@ -96,7 +96,7 @@ fn a_worker_is_started_twice() {
         &[2],
     );
     let outcome = end_of(&plan, &[]);
-    assert_eq!(outcome.report, report([1, 3], [11, 2, 7], &[1, 1, 1]));
+    assert_eq!(front(&outcome), report([1, 3], [11, 2, 7], &[1, 1, 1]));
     let text = "1 0 39 2 1\n1 0 35 0 255\n1 1 39 2 253\n1 1 38 0 255\n\
                 2 2 38 0 255\n2 0 39 2 253\n2 0 38 0 255\nfinished 11\n";
     assert_eq!(listing(&plan.file()), text);
@@ -107,7 +107,7 @@ fn a_started_worker_starts_another() {
     let rows: [Row; 3] = [&[(39, 0, 1)], &[(39, 0, 2)], &[(16, 0, 5), (18, 0, 0)]];
     let plan = draft(&rows, &[1, 2]);
     let outcome = end_of(&plan, &[]);
-    assert_eq!(outcome.report, report([1, 3], [10, 3, 5], &[1, 1, 1]));
+    assert_eq!(front(&outcome), report([1, 3], [10, 3, 5], &[1, 1, 1]));
     assert_eq!(outcome.word(0), 5);
     let text = "1 0 39 1 1\n1 0 38 0 255\n2 1 39 2 1\n2 1 38 0 255\n\
                 3 2 38 0 255\nfinished 10\n";
@@ -131,7 +131,7 @@ fn a_start_of_one_that_does_not_sleep() {
     let plan = Draft::from_rows(&[(0, 2)], &rows);
     let outcome = end_of(&plan, &[]);
     let fates = [2, 1, 3, 4, 1, 1, 1];
-    assert_eq!(outcome.report, report([2, 7], [24, 2, 16], &fates));
+    assert_eq!(front(&outcome), report([2, 7], [24, 2, 16], &fates));
     let text = "1 0 33 0 254\n1 1 38 0 255\n1 2 32 0 1\n1 2 34 0 255\n1 3 37 0 0\n\
                 1 4 35 1 255\n1 5 39 0 253\n1 5 39 1 253\n1 5 39 2 253\n1 5 39 3 253\n\
                 1 5 39 4 253\n1 5 39 5 253\n1 5 39 6 253\n1 5 38 0 255\n1 6 38 0 255\n\
@@ -153,7 +153,7 @@ fn a_start_of_one_that_was_started_and_has_ended() {
     ];
     let plan = draft(&[own, NONE, &[(34, 0, 7)]], &[1, 2]);
     let outcome = end_of(&plan, &[]);
-    assert_eq!(outcome.report, report([1, 3], [14, 3, 9], &[1, 1, 2]));
+    assert_eq!(front(&outcome), report([1, 3], [14, 3, 9], &[1, 1, 2]));
     let text = "1 0 39 1 1\n1 0 39 2 1\n1 0 35 0 255\n2 1 38 0 255\n2 2 34 7 254\n\
                 2 0 35 0 255\n3 0 39 1 253\n3 0 39 2 253\n3 0 38 0 255\nfinished 14\n";
     assert_eq!(listing(&plan.file()), text);
@@ -165,7 +165,7 @@ fn a_start_commits_when_nobody_joins_too() {
     let plan = draft(&[own], &[]);
     let outcome = end_of(&plan, &[]);
     assert_eq!((outcome.word(0), outcome.word(2)), (4, 0));
-    assert_eq!(outcome.report, report([1, 1], [6, 1, 2], &[2]));
+    assert_eq!(front(&outcome), report([1, 1], [6, 1, 2], &[2]));
     assert_eq!(
         listing(&plan.file()),
         "1 0 39 0 253\n1 0 33 0 254\nfinished 6\n"
@@ -186,7 +186,7 @@ fn a_start_between_lock_and_unlock() {
     let plan = draft(&[own, sees], &[1]);
     let outcome = end_of(&plan, &[]);
     assert_eq!([0, 2, 4].map(|at| outcome.word(at)), [8, 8, 8]);
-    assert_eq!(outcome.report, report([1, 2], [13, 2, 5], &[1, 1]));
+    assert_eq!(front(&outcome), report([1, 2], [13, 2, 5], &[1, 1]));
     let text = "1 0 32 3 1\n1 0 39 1 1\n1 0 33 3 0\n2 1 38 0 255\n2 0 38 0 255\nfinished 13\n";
     assert_eq!(listing(&plan.file()), text);
     // Without the unlock the exit fails: what the start committed stays, what
@@ -202,7 +202,7 @@ fn a_start_between_lock_and_unlock() {
     let plan = draft(&[fails, sees], &[1]);
     let outcome = end_of(&plan, &[]);
     assert_eq!([0, 2, 4].map(|at| outcome.word(at)), [8, 0, 8]);
-    assert_eq!(outcome.report, report([1, 2], [11, 2, 4], &[2, 1]));
+    assert_eq!(front(&outcome), report([1, 2], [11, 2, 4], &[2, 1]));
     let text = "1 0 32 0 1\n1 0 39 1 1\n1 0 38 0 254\n2 1 38 0 255\nfinished 11\n";
     assert_eq!(listing(&plan.file()), text);
 }
@@ -214,7 +214,7 @@ fn a_start_then_own_steps_and_a_barrier() {
     let plan = Draft::from_rows(&[(0, 2)], &[&[(37, 0, 0)], starts, sees]).asleep(&[2]);
     let outcome = end_of(&plan, &[]);
     assert_eq!((outcome.word(0), outcome.word(2)), (6, 6));
-    assert_eq!(outcome.report, report([1, 3], [15, 2, 6], &[1, 1, 1]));
+    assert_eq!(front(&outcome), report([1, 3], [15, 2, 6], &[1, 1, 1]));
     let text = "1 0 37 0 0\n1 1 39 2 1\n1 1 37 0 2\n2 2 38 0 255\n2 0 38 0 255\n\
                 2 1 38 0 255\nfinished 15\n";
     assert_eq!(listing(&plan.file()), text);
@@ -223,7 +223,7 @@ fn a_start_then_own_steps_and_a_barrier() {
     let plan = Draft::from_rows(&[(0, 2)], &[starts, NONE, sees]).asleep(&[2]);
     let outcome = end_of(&plan, &[]);
     assert_eq!((outcome.word(0), outcome.word(2)), (6, 6));
-    assert_eq!(outcome.report, report([2, 3], [11, 2, 4], &[4, 1, 1]));
+    assert_eq!(front(&outcome), report([2, 3], [11, 2, 4], &[4, 1, 1]));
     let text = "1 0 39 2 1\n1 0 37 0 0\n1 1 38 0 255\n2 2 38 0 255\nstuck 11\n";
     assert_eq!(listing(&plan.file()), text);
 }
@@ -249,7 +249,7 @@ fn a_start_keeps_the_token_and_a_lock_commits_again() {
             1 => ("2 1 38 0 255\nfinished 12\n", 1, [12, 2, 4]),
             _ => ("finished 10\n", 5, [10, 1, 3]),
         };
-        assert_eq!(outcome.report, report([1, 2], tallies, &[2, fate]));
+        assert_eq!(front(&outcome), report([1, 2], tallies, &[2, fate]));
         assert_eq!(listing(&plan.file()), text + behind);
     }
 }
@@ -277,7 +277,7 @@ fn nobody_comes_between_a_start_and_what_follows_it() {
     let plan = draft(&[own, adds, adds], &[2]);
     let outcome = end_of(&plan, &[]);
     assert_eq!(outcome.word(0), 26);
-    assert_eq!(outcome.report, report([1, 3], [26, 3, 10], &[1, 1, 1]));
+    assert_eq!(front(&outcome), report([1, 3], [26, 3, 10], &[1, 1, 1]));
     let text = "1 0 39 2 1\n1 0 32 0 1\n1 0 33 0 0\n1 1 32 0 1\n1 1 33 0 0\n\
                 2 2 32 0 1\n2 2 33 0 0\n2 0 38 0 255\n2 1 38 0 255\n3 2 38 0 255\nfinished 26\n";
     assert_eq!(listing(&plan.file()), text);
@@ -295,7 +295,7 @@ fn the_next_list_by_the_order_of_events() {
     ];
     let plan = Draft::from_rows(&[(0, 2)], &rows).asleep(&[4, 5]);
     let outcome = end_of(&plan, &[]);
-    assert_eq!(outcome.report, report([1, 6], [22, 2, 12], &[1; 6]));
+    assert_eq!(front(&outcome), report([1, 6], [22, 2, 12], &[1; 6]));
     let text = "1 0 35 0 255\n1 1 37 0 0\n1 2 39 5 1\n1 2 35 0 255\n1 3 39 4 1\n1 3 37 0 2\n\
                 2 0 38 0 255\n2 5 38 0 255\n2 2 38 0 255\n2 4 38 0 255\n2 1 38 0 255\n\
                 2 3 38 0 255\nfinished 22\n";
@@ -311,7 +311,7 @@ fn several_are_started_in_one_hold() {
     let outcome = end_of(&plan, &[]);
     // All have their copies before the first commit; the last one's stays.
     assert_eq!(outcome.word(0), 2);
-    assert_eq!(outcome.report, report([1, 4], [17, 2, 7], &[1; 4]));
+    assert_eq!(front(&outcome), report([1, 4], [17, 2, 7], &[1; 4]));
     let text = "1 0 39 3 1\n1 0 39 1 1\n1 0 39 2 1\n1 0 38 0 255\n\
                 2 3 38 0 255\n2 1 38 0 255\n2 2 38 0 255\nfinished 17\n";
     assert_eq!(listing(&plan.file()), text);
@@ -324,7 +324,7 @@ fn a_woken_worker_goes_before_a_started_one() {
     let waits: Row = &[(32, 0, 0), (34, 0, 0), (33, 0, 0)];
     let plan = draft(&[waits, &[(39, 0, 2), (35, 0, 0)], NONE], &[2]);
     let outcome = end_of(&plan, &[]);
-    assert_eq!(outcome.report, report([1, 3], [13, 2, 8], &[1, 1, 1]));
+    assert_eq!(front(&outcome), report([1, 3], [13, 2, 8], &[1, 1, 1]));
     let text = "1 0 32 0 1\n1 0 34 0 255\n1 1 39 2 1\n1 1 35 0 0\n1 0 33 0 0\n\
                 2 2 38 0 255\n2 1 38 0 255\n2 0 38 0 255\nfinished 13\n";
     assert_eq!(listing(&plan.file()), text);
@@ -336,7 +336,7 @@ fn a_waiter_that_a_started_worker_wakes() {
     let starts: Row = &[(39, 0, 1), (32, 0, 0), (34, 0, 4), (33, 0, 0)];
     let plan = draft(&[starts, &[(36, 0, 4)]], &[1]);
     let outcome = end_of(&plan, &[]);
-    assert_eq!(outcome.report, report([1, 2], [11, 3, 7], &[1, 1]));
+    assert_eq!(front(&outcome), report([1, 2], [11, 3, 7], &[1, 1]));
     let text = "1 0 39 1 1\n1 0 32 0 1\n1 0 34 4 255\n2 1 36 4 1\n2 0 33 0 0\n\
                 3 1 38 0 255\n3 0 38 0 255\nfinished 11\n";
     assert_eq!(listing(&plan.file()), text);
@@ -356,20 +356,20 @@ fn turn_by_turn() {
         assert_eq!(machine.outcome().report[9], fate);
     }
     let outcome = machine.outcome();
-    assert_eq!(outcome.report, report([1, 2], [7, 2, 3], &[1, 1]));
+    assert_eq!(front(&outcome), report([1, 2], [7, 2, 3], &[1, 1]));
     // What a run of the call leaves in between.
     let between = run_call(&draft(&[own, NONE], &[1]), &[1, 0, 1, 0, 1, 0, 0], &[]);
-    assert_eq!(between.report, report([0, 2], [4, 0, 1], &[0, 0]));
+    assert_eq!(front(&between), report([0, 2], [4, 0, 1], &[0, 0]));
     assert_eq!(between.word(0), 0);
     let none = run_call(&draft(&[own, NONE], &[1]), &[], &[]);
-    assert_eq!(none.report, report([0, 2], [0, 0, 0], &[0, 5]));
+    assert_eq!(front(&none), report([0, 2], [0, 0, 0], &[0, 5]));
 }
 
 #[test]
 fn turns_of_sleepers_alone_pass() {
     let plan = draft(&[NONE; 3], &[1, 2]);
     let outcome = run_call(&plan, &[1, 2, 2, 1, 1], &[]);
-    assert_eq!(outcome.report, report([0, 3], [0, 0, 0], &[0, 5, 5]));
+    assert_eq!(front(&outcome), report([0, 3], [0, 0, 0], &[0, 5, 5]));
 }
 
 #[test]
@@ -392,7 +392,7 @@ fn the_longest_chain() {
     // 1,024 steps, eight ends and an arrival for each round of one worker.
     let rounds = 7 * 128 + 129;
     let tallies = [1_032 + rounds, rounds, 1_032];
-    assert_eq!(outcome.report, report([1, 8], tallies, &[1; 8]));
+    assert_eq!(front(&outcome), report([1, 8], tallies, &[1; 8]));
 }
 
 /// A plan of three workers with these records behind its first, and what a

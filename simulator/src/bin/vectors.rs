@@ -12,6 +12,7 @@ use std::collections::BTreeSet;
 use std::process::ExitCode;
 use std::{env, fs};
 
+use simulator::format::{REPORT_FATES, REPORT_SUM};
 use simulator::generate::damage::{
     barrier_damages, border_files, fault_pairs, single_faults, sleep_damages, start_damages,
 };
@@ -82,7 +83,7 @@ fn memory_sum(memory: &[u8]) -> u64 {
 }
 
 /// The paper's cases, those of its first two requests, the borders, runs of
-/// every kind, refused files.
+/// every kind, refused files, and behind them the plans of the third request.
 fn files(rng: &mut Rng) -> Vec<Vec<u8>> {
     let mut files = Vec::new();
     files.extend(cases());
@@ -96,6 +97,8 @@ fn files(rng: &mut Rng) -> Vec<Vec<u8>> {
         files.push(plan(rng, kind).file());
     }
     files.extend(refused(rng));
+    files.extend(sums());
+    files.extend((0..11).map(|_| plan(rng, PlanKind::Sums).file()));
     files
 }
 
@@ -294,6 +297,36 @@ fn broadcasts_on_memory() -> [Vec<u8>; 4] {
     plans.map(|(rows, sleepers)| sleeping(rows, sleepers).file())
 }
 
+/// Plans of the third request, each with two workers that write one word or
+/// neighbours: a byte of it each, one byte with another value and with the same
+/// one, words at odd addresses and over page borders; a byte that is zero again
+/// when a third worker writes over it; two words that change places; bytes that
+/// a failure loses.
+fn sums() -> Vec<Vec<u8>> {
+    let stores = |word: u16, address: u16| [(16, 0, word), (18, 0, address)];
+    let pairs = [
+        [stores(256, 6), stores(1, 6)],
+        [stores(7, 6), stores(9, 6)],
+        [stores(0x0707, 6), stores(0x0708, 6)],
+        [stores(0x0305, 7), stores(0x0906, 8)],
+        [stores(0x0201, 255), stores(0x0403, 255)],
+        [stores(0x0201, 511), stores(0x0403, 510)],
+        [stores(0x0201, 2_045), stores(0x0403, 2_046)],
+    ];
+    let mut files: Vec<Vec<u8>> = pairs
+        .iter()
+        .map(|[one, two]| Draft::from_rows(&[], &[one, two]).file())
+        .collect();
+    let (five, nine) = (stores(5, 1), stores(9, 1));
+    let clears: Row = &[LOCK, (18, 3, 1), UNLOCK];
+    let swaps: Row = &[(17, 0, 0), (17, 1, 4), (18, 0, 4), (18, 1, 0)];
+    let swapped = [&stores(258, 0)[..], &stores(772, 4), &[SIGNAL], swaps].concat();
+    let lost = [&five[..], &[LOCK], &nine, &[(37, 0, 0)]].concat();
+    let plans: [&[Row]; 3] = [&[&five, clears, &nine], &[&swapped], &[&lost, &nine]];
+    files.extend(plans.map(|rows| sleeping(rows, &[]).file()));
+    files
+}
+
 /// Case 11: what just passes and what just does not.
 fn borders(rng: &mut Rng) -> Vec<Vec<u8>> {
     let one = |row: Row| Draft::from_rows(&[], &[row]).file();
@@ -413,7 +446,7 @@ impl Seen {
         self.counts.add(machine.counts());
         let outcome = machine.outcome();
         self.ends.insert(outcome.end());
-        self.fates.extend(&outcome.report[8..]);
+        self.fates.extend(&outcome.report[REPORT_FATES..REPORT_SUM]);
         self.rules.extend(rules(&outcome.log));
     }
 }

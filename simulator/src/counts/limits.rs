@@ -2,6 +2,9 @@
 //! not without the plan beside them.
 
 use crate::counts::board::Row;
+use crate::counts::sums::{
+    border_store, byte_over, commit_by, lost, odd_store, uncommitted, word_of_two, COMMITS, MOVED,
+};
 use crate::counts::waking::{above_all, beside, into, woken_before, CAME, INTO};
 use crate::counts::{PLAIN, SYNCHRONISING};
 
@@ -51,6 +54,14 @@ pub enum Limit {
     WokenBefore,
     Came,
     CameAboveAll,
+    CommitBy,
+    SumMoved,
+    ByteOver,
+    WordOfTwo,
+    OddStore,
+    BorderStore,
+    Uncommitted,
+    Lost,
 }
 
 /// A row and the place in it of a limit that was met.
@@ -70,7 +81,7 @@ const fn row(
     (limit, row)
 }
 
-const COUNT: usize = 43;
+const COUNT: usize = 51;
 
 /// Count of ops: 16 to 22 and 32 to 39.
 pub const OPS: usize = PLAIN.len() + SYNCHRONISING.len();
@@ -251,6 +262,49 @@ const TABLE: [(Limit, Row); COUNT] = [
         "more come into one round's list than the plan has",
         14,
         above_all,
+    ),
+    row(
+        Limit::CommitBy,
+        "commit that changes memory",
+        COMMITS,
+        commit_by,
+    ),
+    row(
+        Limit::SumMoved,
+        "commit that moves the sum by",
+        MOVED.len(),
+        |place| MOVED[place].to_string(),
+    ),
+    row(Limit::ByteOver, "byte written by a commit", 8, byte_over),
+    row(
+        Limit::WordOfTwo,
+        "word with bytes of two workers",
+        4,
+        word_of_two,
+    ),
+    row(
+        Limit::OddStore,
+        "store at an odd address, committed",
+        4,
+        odd_store,
+    ),
+    row(
+        Limit::BorderStore,
+        "store over a page border, committed",
+        28,
+        border_store,
+    ),
+    row(
+        Limit::Uncommitted,
+        "bytes that would move the sum, not committed at the end of the list",
+        5,
+        uncommitted,
+    ),
+    row(
+        Limit::Lost,
+        "bytes that would move the sum, lost by a failure",
+        5,
+        lost,
     ),
 ];
 

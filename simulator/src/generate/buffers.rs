@@ -6,11 +6,13 @@ use crate::generate::rng::Rng;
 /// Right lengths of memory, log, report and work.
 pub const LENGTHS: [usize; 4] = [MEMORY_LENGTH, LOG_LENGTH, REPORT_LENGTH, WORK_LENGTH];
 
-/// A starting memory: zero, of few values, or of any bytes.
+/// A starting memory: of the least and of the greatest sum, of few values,
+/// or of any bytes.
 pub fn memory(rng: &mut Rng) -> Vec<u8> {
-    match rng.below(3) {
-        0 => vec![0; MEMORY_LENGTH],
-        1 => (0..MEMORY_LENGTH)
+    match rng.below(6) {
+        0 | 1 => vec![0; MEMORY_LENGTH],
+        2 => vec![255; MEMORY_LENGTH],
+        3 => (0..MEMORY_LENGTH)
             .map(|_| rng.pick(&[0, 0, 1, 5, 255]))
             .collect(),
         _ => noise(rng, MEMORY_LENGTH),
@@ -40,11 +42,13 @@ pub fn wrong_lengths(rng: &mut Rng) -> [usize; 4] {
 }
 
 fn wrong_length(rng: &mut Rng, right: usize) -> usize {
-    match rng.below(5) {
+    match rng.below(6) {
         0 => 0,
         1 => right - 1,
         2 => right + 1,
         3 => right / 2,
+        // A report without its sum.
+        4 => right - 4,
         _ => right * 2,
     }
 }

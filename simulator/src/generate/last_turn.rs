@@ -1,4 +1,4 @@
-//! Turn lists of the greatest length whose last turn moves.
+//! Turn lists whose last turn moves: of the greatest length, and of moves alone.
 
 use crate::check::check;
 use crate::format::MOST_TURNS;
@@ -31,6 +31,15 @@ pub fn last_turn_moves(rng: &mut Rng, draft: &Draft, memory: &[u8]) -> Option<Ve
     let length = MOST_TURNS - usize::from(rng.chance(1, 4));
     let between = vec![idle; length - cut];
     Some([&found.moves[..place], &between, &found.moves[place..cut]].concat())
+}
+
+/// Moves of a plan up to any of them, or none, so that the list ends within a
+/// round, mostly.
+pub fn cut_moves(rng: &mut Rng, draft: &Draft, memory: &[u8]) -> Vec<u8> {
+    let found = find(rng, draft, memory);
+    let mut moves = found.map_or_else(Vec::new, |found| found.moves);
+    moves.truncate(rng.below(moves.len() + 1));
+    moves
 }
 
 /// Plays turns of any worker to the end.

@@ -16,6 +16,7 @@ pub mod rng;
 pub mod scenario;
 pub mod script;
 pub mod starts;
+pub mod sums;
 pub mod turns;
 
 pub use damage::{damaged_files, showcase, Damaged};

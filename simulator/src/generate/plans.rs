@@ -9,6 +9,7 @@ use crate::generate::long_queues::long_queues;
 use crate::generate::rng::Rng;
 use crate::generate::script::{add_skips, script, Taste, BLOCKS};
 use crate::generate::starts::{add_starts, sleepers, sleepers_at_times, with_sleepers};
+use crate::generate::sums::sums;
 
 /// What a random plan is about.
 #[derive(Clone, Copy, Debug, PartialEq, Eq)]
@@ -35,6 +36,8 @@ pub enum PlanKind {
     Starts,
     /// Waiters that are woken by one or all together, and wake each other.
     Broadcasts,
+    /// Workers that write the same words in every round.
+    Sums,
     /// The longest file: 1,040 records.
     Longest,
     /// The longest log: 1,032 records; without starts, in as many moves as can
@@ -50,7 +53,7 @@ pub enum PlanKind {
 
 impl PlanKind {
     /// Every kind.
-    pub const ALL: [PlanKind; 16] = [
+    pub const ALL: [PlanKind; 17] = [
         PlanKind::Empty,
         PlanKind::Race,
         PlanKind::Locks,
@@ -62,6 +65,7 @@ impl PlanKind {
         PlanKind::Loose,
         PlanKind::Starts,
         PlanKind::Broadcasts,
+        PlanKind::Sums,
         PlanKind::Longest,
         PlanKind::FullLog,
         PlanKind::Relay,
@@ -76,7 +80,7 @@ impl PlanKind {
     /// The kinds whose plans are long.
     pub const LONG: [PlanKind; 3] = [PlanKind::Longest, PlanKind::FullLog, PlanKind::Relay];
 
-    /// The kinds whose plans stay small.
+    /// The kinds whose plans stay small, but for the one that is about sums.
     pub const SMALL: [PlanKind; 11] = [
         PlanKind::Empty,
         PlanKind::Race,
@@ -108,7 +112,8 @@ impl PlanKind {
             PlanKind::Longest if rng.chance(1, 2) => [4, 4, 6, 0, 4, 0, 0, 0, 0, 0],
             PlanKind::Longest => [12, 12, 18, 2, 14, 2, 0, 0, 0, 2],
             PlanKind::FullLog | PlanKind::Relay => [0; BLOCKS],
-            PlanKind::Deep | PlanKind::LongQueues | PlanKind::Broadcasts => [0; BLOCKS],
+            PlanKind::Deep | PlanKind::LongQueues => [0; BLOCKS],
+            PlanKind::Broadcasts | PlanKind::Sums => [0; BLOCKS],
         }
     }
 }
@@ -128,6 +133,7 @@ pub fn plan(rng: &mut Rng, kind: PlanKind) -> Draft {
         PlanKind::Relay => relay(rng),
         PlanKind::Phases => phases(rng),
         PlanKind::Broadcasts => broadcasts(rng),
+        PlanKind::Sums => sums(rng),
         PlanKind::Deep => {
             let draft = deep(rng);
             with_sleepers(rng, draft)

@@ -5,7 +5,7 @@ use crate::generate::damage::{
     damaged_files, double_fault, fuzzed, lengthened, showcase, single_fault, Damaged,
 };
 use crate::generate::draft::Draft;
-use crate::generate::last_turn::last_turn_moves;
+use crate::generate::last_turn::{cut_moves, last_turn_moves};
 use crate::generate::plans::{plan, PlanKind};
 use crate::generate::rng::Rng;
 use crate::generate::turns::{misnamed, too_long, turns, TurnKind};
@@ -16,6 +16,8 @@ pub enum ListKind {
     Made(TurnKind),
     /// As long as a list may be, or one turn shorter, and its last turn moves.
     LastMoves,
+    /// Moves alone, cut anywhere.
+    Cut,
     /// Above 65,535 turns.
     TooLong,
     /// With a turn that names no worker.
@@ -79,11 +81,16 @@ impl Scenarios {
         let kind = match rng.below(48) {
             0..3 => rng.pick(&PlanKind::LONG),
             3..6 => rng.pick(&PlanKind::FAR),
+            6..16 => PlanKind::Sums,
             _ => rng.pick(&PlanKind::SMALL),
         };
         let draft = plan(&mut rng, kind);
         let memory = memory(&mut rng);
-        let (list, turns) = turn_list(&mut rng, &draft, &memory);
+        let cuts = rng.chance(if kind == PlanKind::Sums { 8 } else { 1 }, 16);
+        let (list, turns) = match cuts {
+            true => (ListKind::Cut, cut_moves(&mut rng, &draft, &memory)),
+            false => turn_list(&mut rng, &draft, &memory),
+        };
         let (file_label, file) = self.plan_file(&mut rng, &draft);
         let mut scenario = Scenario {
             label: format!("seed {seed}, {kind:?}, {list:?}, {file_label}"),

@@ -1,6 +1,8 @@
 //! Runs of hand-made drafts, for the tests that know their bytes.
 
-use simulator::format::{LOG_LENGTH, LOG_RECORD_LENGTH, MEMORY_LENGTH, REPORT_LENGTH, WORK_LENGTH};
+use simulator::format::{
+    LOG_LENGTH, LOG_RECORD_LENGTH, MEMORY_LENGTH, REPORT_LENGTH, REPORT_SUM, WORK_LENGTH,
+};
 use simulator::generate::draft::Draft;
 use simulator::listing::listing_turns;
 use simulator::{check, play_rounds, run, Outcome};
@@ -27,11 +29,19 @@ pub fn run_call(draft: &Draft, turns: &[u8], start: &[(usize, u8)]) -> Outcome {
     let used = usize::from(u16::from_le_bytes([report[6], report[7]])) * LOG_RECORD_LENGTH;
     assert!(log[used..].iter().all(|&byte| byte == 0));
     log.truncate(used);
-    Outcome {
+    let outcome = Outcome {
         memory,
         log,
         report,
-    }
+    };
+    assert_eq!(outcome.sum(), sum_of(&outcome.memory));
+    outcome
+}
+
+/// The sum of all words at even addresses.
+pub fn sum_of(memory: &[u8]) -> u32 {
+    let each = |address: usize| u32::from(memory[address]) + 256 * u32::from(memory[address + 1]);
+    (0..MEMORY_LENGTH).step_by(2).map(each).sum()
 }
 
 /// Runs a draft with the listing's turns; the round-by-round run must agree.
@@ -46,13 +56,21 @@ pub fn end_of(draft: &Draft, start: &[(usize, u8)]) -> Outcome {
     outcome
 }
 
-/// A report from its end and n, its three tallies and the fates.
-pub fn report(head: [u8; 2], tallies: [u16; 3], fates: &[u8]) -> [u8; REPORT_LENGTH] {
+/// The report in front of its sum.
+pub fn front(outcome: &Outcome) -> [u8; REPORT_SUM] {
+    let mut bytes = [0; REPORT_SUM];
+    bytes.copy_from_slice(&outcome.report[..REPORT_SUM]);
+    bytes
+}
+
+/// A report in front of its sum, from its end and n, its three tallies and the
+/// fates.
+pub fn report(head: [u8; 2], tallies: [u16; 3], fates: &[u8]) -> [u8; REPORT_SUM] {
     let mut bytes = head.to_vec();
     for tally in tallies {
         bytes.extend(tally.to_le_bytes());
     }
     bytes.extend(fates);
-    bytes.resize(REPORT_LENGTH, NO);
+    bytes.resize(REPORT_SUM, NO);
     bytes.try_into().expect("sixteen bytes")
 }
