@@ -1,5 +1,6 @@
 //! One call, made on an engine and on the simulator, and what differed.
 
+use simulator::format::REPORT_SUM;
 use simulator::{check_code, run_counted, Counts};
 
 use crate::engine::{Engine, Told};
@@ -39,6 +40,7 @@ pub enum Difference {
 pub struct Verdict {
     pub answer: u32,
     pub counts: Counts,
+    pub memory: Vec<u8>,
     pub log: Vec<u8>,
     pub report: Vec<u8>,
 }
@@ -47,6 +49,12 @@ impl Verdict {
     /// The report's count of log records.
     pub fn log_records(&self) -> usize {
         usize::from(u16::from_le_bytes([self.report[6], self.report[7]]))
+    }
+
+    /// The report's sum.
+    pub fn sum(&self) -> u32 {
+        let four = &self.report[REPORT_SUM..];
+        u32::from_le_bytes([four[0], four[1], four[2], four[3]])
     }
 }
 
@@ -100,6 +108,7 @@ pub fn expected(call: &Call) -> (Verdict, [Vec<u8>; 4]) {
     let verdict = Verdict {
         answer,
         counts,
+        memory: after[0].clone(),
         log: after[1].clone(),
         report: after[2].clone(),
     };

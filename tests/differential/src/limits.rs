@@ -10,6 +10,7 @@ mod queues;
 mod refusals;
 mod skips;
 mod starts;
+mod sums;
 mod totals;
 
 use simulator::format::MEMORY_LENGTH;
@@ -18,11 +19,12 @@ use simulator::generate::Draft;
 use simulator::turn_machine::End;
 use simulator::{check, Machine, Plan, Step};
 
-/// A file and a turn list at a limit.
+/// A file, a turn list and a starting memory at a limit.
 pub struct Limit {
     pub name: String,
     pub file: Vec<u8>,
     pub turns: Vec<u8>,
+    pub memory: Vec<u8>,
 }
 
 impl Limit {
@@ -31,7 +33,14 @@ impl Limit {
             name: format!("at the limits: {name}"),
             file,
             turns,
+            memory: memory(),
         }
+    }
+
+    /// The same with another starting memory.
+    fn on(mut self, memory: &[u8]) -> Self {
+        self.memory = memory.to_vec();
+        self
     }
 }
 
@@ -47,13 +56,14 @@ pub fn all() -> Vec<Limit> {
         refusals::all(),
         skips::all(),
         starts::all(),
+        sums::all(),
         totals::all(),
     ];
     parts.into_iter().flatten().collect()
 }
 
-/// The starting memory: no byte is zero, and pages differ from each other.
-pub fn memory() -> Vec<u8> {
+/// A starting memory in which no byte is zero, and pages differ from each other.
+fn memory() -> Vec<u8> {
     let byte = |address: usize| (1 + (3 * address + 50 * (address / 256)) % 255) as u8;
     (0..MEMORY_LENGTH).map(byte).collect()
 }
@@ -73,7 +83,11 @@ fn plan_of(draft: &Draft) -> Plan {
 
 /// The turns that move when cycles in this order are played to the end.
 fn moving_turns(plan: &Plan, order: &[u8]) -> Vec<u8> {
-    let mut machine = Machine::new(plan, &memory());
+    moving_turns_on(&memory(), plan, order)
+}
+
+fn moving_turns_on(memory: &[u8], plan: &Plan, order: &[u8]) -> Vec<u8> {
+    let mut machine = Machine::new(plan, memory);
     let mut moving = Vec::new();
     while machine.end() == End::Going {
         let cycle = order.iter().copied();
@@ -99,4 +113,14 @@ fn played(name: &str, draft: &Draft) -> Vec<Limit> {
         Limit::new(name, file.clone(), moving),
         Limit::new(name, file, cycles),
     ]
+}
+
+/// A plan under every beginning of its moves, from the empty one on.
+fn every_beginning(name: &str, draft: &Draft, memory: &[u8]) -> Vec<Limit> {
+    let (file, plan) = (draft.file(), plan_of(draft));
+    let moving = moving_turns_on(memory, &plan, &rising(&plan));
+    let cut = |length: usize| Limit::new(name, file.clone(), moving[..length].to_vec());
+    (0..=moving.len())
+        .map(|length| cut(length).on(memory))
+        .collect()
 }

@@ -9,12 +9,13 @@ mod records;
 mod reports;
 mod sleepers;
 
-use simulator::format::LOG_RECORD_LENGTH;
+use simulator::format::{LOG_RECORD_LENGTH, REPORT_FATES, REPORT_SUM};
 use simulator::generate::{ListKind, PlanKind, TurnKind};
 use simulator::Counts;
 
 use crate::call::{Call, Verdict};
 use limits::Limits;
+pub use reports::SUMS;
 use sleepers::Share;
 
 const OUTCOMES: [&str; 27] = [
@@ -68,7 +69,7 @@ pub struct Tally {
     fates: [u64; FATES.len()],
     run_answers: [u64; 15],
     check_answers: [u64; 15],
-    lists: [u64; TurnKind::ALL.len() + 3],
+    lists: [u64; TurnKind::ALL.len() + 4],
     plans: [u64; PlanKind::ALL.len()],
     late_rounds: u64,
     rounds: u64,
@@ -106,7 +107,10 @@ impl Tally {
             self.late_rounds += u64::from(record[3] != 0);
         }
         self.ends[usize::from(verdict.report[0])] += 1;
-        for &fate in verdict.report[8..].iter().filter(|&&fate| fate != 255) {
+        for &fate in verdict.report[REPORT_FATES..REPORT_SUM]
+            .iter()
+            .filter(|&&fate| fate != 255)
+        {
             self.fates[usize::from(fate)] += 1;
         }
     }
@@ -120,6 +124,7 @@ impl Tally {
             ListKind::TooLong => Some(all.len()),
             ListKind::Misnamed => Some(all.len() + 1),
             ListKind::LastMoves => Some(all.len() + 2),
+            ListKind::Cut => Some(all.len() + 3),
         };
         self.lists[place.expect("a kind of list")] += 1;
         let place = PlanKind::ALL.iter().position(|&each| each == plan);
@@ -170,7 +175,7 @@ impl Tally {
         rows.extend(named("end: ", &ENDS, &self.ends));
         rows.extend(named("fate: ", &FATES, &self.fates));
         let mut lists: Vec<String> = TurnKind::ALL.map(|kind| format!("{kind:?}")).to_vec();
-        lists.extend(["TooLong", "Misnamed", "LastMoves"].map(str::to_string));
+        lists.extend(["TooLong", "Misnamed", "LastMoves", "Cut"].map(str::to_string));
         rows.extend(named("turn list: ", &lists, &self.lists));
         let plans = PlanKind::ALL.map(|kind| format!("{kind:?}"));
         rows.extend(named("plan: ", &plans, &self.plans));

@@ -18,6 +18,8 @@ pub struct Tiny {
 }
 
 const STORE: Row = &[(16, 0, 258), (18, 0, 255)];
+const STORE_BESIDE: Row = &[(16, 0, 772), (18, 0, 254)];
+const LOCKED_STORE: Row = &[(32, 0, 0), (16, 0, 258), (18, 0, 254), (33, 0, 0)];
 const SECTION: Row = &[(32, 0, 0), (33, 0, 0)];
 const WAITER: Row = &[(32, 0, 3), (34, 0, 2), (33, 0, 3)];
 const WAKER: Row = &[(35, 0, 2)];
@@ -46,9 +48,11 @@ const TWO_WAIT: &[u8] = &[0, 1, 2, 0, 0, 1, 1];
 
 /// The plans.
 pub fn plans() -> Vec<Tiny> {
-    let pairs: [Sketch<2>; 12] = [
+    let pairs: [Sketch<2>; 14] = [
         (&[], [&[], &[]]),
         (&[], [STORE, STORE]),
+        (&[], [STORE, STORE_BESIDE]),
+        (&[], [LOCKED_STORE, STORE]),
         (&[], [ADDING, &[]]),
         (&[], [SECTION, SECTION]),
         (&[], [WAITER, WAKER]),

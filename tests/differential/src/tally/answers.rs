@@ -69,15 +69,20 @@ pub const RUN_ROWS: [Row; 4] = [
     },
     Row {
         name: "refusal 11, one buffer",
-        members: 12,
-        named: |place| {
-            let by = ["one byte short", "one byte longer", "64 KiB longer"][place % 3];
-            format!("{} {by}", BUFFERS[place / 3])
-        },
+        members: 4 * WRONG.len(),
+        named: |place| format!("{} {}", BUFFERS[place / 4], WRONG[place % 4]),
     },
 ];
 
 const BUFFERS: [&str; 4] = ["memory", "log", "report", "work"];
+
+/// A report that is four bytes short has no sum.
+const WRONG: [&str; 4] = [
+    "one byte short",
+    "four bytes short",
+    "one byte longer",
+    "64 KiB longer",
+];
 
 fn refusal_and_record(place: usize) -> String {
     let refusal = REFUSALS[place / 4];
@@ -151,9 +156,9 @@ fn note_lengths(board: &mut Board, call: &Call) {
         return;
     };
     let (length, right) = (call.lent[which].len(), LENGTHS[which]);
-    let wrong = [right - 1, right + 1, right + 65_536];
+    let wrong = [right - 1, right - 4, right + 1, right + 65_536];
     if let Some(by) = wrong.iter().position(|&each| each == length) {
-        board.count(3, 3 * which + by);
+        board.count(3, 4 * which + by);
     }
 }
 

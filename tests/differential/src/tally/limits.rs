@@ -49,6 +49,7 @@ impl Limits {
             self.within.count(limit as usize, usize::from(member));
         }
         reports::note(&mut self.reports, &verdict.report);
+        reports::note_sum(&mut self.reports, &call.lent[0], verdict);
         self.log(verdict);
     }
 
