@@ -9,7 +9,9 @@
  *   2  turns as they are; else reduced below the count of workers
  *   4  a starting memory of many values; else of zeros
  *   8  each turn eight times
- * The byte for the buffers: 0 to 7 name a wrong length, others none. */
+ *  32  a starting memory of 255s, whatever flag 4 says
+ * The byte for the buffers: 0 to 7 name a length that is one byte wrong, 8 to 11
+ * one that is four bytes short, as a report without its sum is, others none. */
 #include <stdint.h>
 #include <stdio.h>
 #include <stdlib.h>
@@ -212,10 +214,12 @@ static void make_lent(unsigned flags, unsigned wrong)
         size_t len = LENGTHS[i];
         if (wrong / 2 == i && wrong < 8)
             len = wrong % 2 ? len + 1 : len - 1;
+        if (wrong == 8 + i)
+            len -= 4;
         begin(&given.buffers[i], len, (uint8_t)(0x31 + i));
     }
     for (size_t i = 0; i < memory->len; i++)
-        start(memory)[i] = flags & 4 ? (uint8_t)(i * 37 >> 3) : 0;
+        start(memory)[i] = flags & 32 ? 255 : flags & 4 ? (uint8_t)(i * 37 >> 3) : 0;
 }
 
 static void make_call(const uint8_t *data, size_t size)

@@ -1,11 +1,12 @@
-//! Writes inputs of the fuzz target with sleepers, starts and broadcasts.
+//! Writes inputs of the fuzz target with sleepers, starts, broadcasts and words
+//! that several workers write.
 //!
 //! `seeds FOLDER`. tests/fuzz/fuzz.c says how an input is laid out. The inputs
-//! are the same each time: `start-N` and `broadcast-N` are plans with their
-//! turns, `sleep-N` files with a fault of a sleep record or of a start,
+//! are the same each time: `start-N`, `broadcast-N` and `sum-N` are plans with
+//! their turns, `sleep-N` files with a fault of a sleep record or of a start,
 //! `long-4` a file of the greatest length and `long-5` one with a record more,
 //! `made-starts`, `made-sleepers` and `made-broadcasts` are steps from which
-//! the target makes a file.
+//! the target makes a file, `length-*-4` plans with a buffer four bytes short.
 
 use std::path::Path;
 use std::process::ExitCode;
@@ -16,18 +17,22 @@ use simulator::format::{
 };
 use simulator::generate::damage::{single_faults, sleep_damages, start_damages};
 use simulator::generate::faults::{faults, Fault};
+use simulator::generate::last_turn::cut_moves;
 use simulator::generate::{plan, Damaged, Draft, PlanKind, Rng};
 use simulator::turn_machine::End;
 use simulator::{check, play_rounds, Machine};
 
 /// Flags of an input: the plan's part is the file, memory of many values, each
-/// turn eight times.
+/// turn eight times, memory of 255s.
 const FILE: u8 = 1;
 const VALUES: u8 = 4;
 const EIGHT_TIMES: u8 = 8;
+const FULL: u8 = 32;
 
 /// Names no wrong length of a buffer.
 const RIGHT_LENGTHS: u8 = 255;
+/// From here on a byte names a buffer that is four bytes short.
+const SHORT_LENGTHS: u8 = 8;
 
 fn main() -> ExitCode {
     let [folder] = &env::args().skip(1).collect::<Vec<_>>()[..] else {
@@ -55,6 +60,8 @@ fn write_all(folder: &Path) -> std::io::Result<usize> {
     all.extend(made());
     all.extend(numbered("broadcast", broadcasts(&mut rng)));
     all.push(made_broadcasts());
+    all.extend(numbered("sum", sums(&mut rng)));
+    all.extend(short_buffers());
     for (name, bytes) in &all {
         fs::write(folder.join(name), bytes)?;
     }
@@ -117,6 +124,39 @@ fn broadcasts(rng: &mut Rng) -> Vec<Vec<u8>> {
         }
     }
     all
+}
+
+/// Small plans in which workers write the same words, from memories of zeros, of
+/// many values and of 255s, to the end and cut anywhere.
+fn sums(rng: &mut Rng) -> Vec<Vec<u8>> {
+    let mut all = Vec::new();
+    while all.len() < 48 {
+        let draft = plan(rng, PlanKind::Sums);
+        let file = draft.file();
+        if file.len() > 60 * RECORD_LENGTH {
+            continue;
+        }
+        let list = match all.len() % 2 {
+            0 => turns(rng, &file, 400),
+            _ => cut_moves(rng, &draft, &[0; MEMORY_LENGTH]),
+        };
+        let memory = [0, VALUES, FULL][all.len() / 2 % 3];
+        all.push(input(FILE | memory, &file, &list));
+    }
+    all
+}
+
+/// A plan that would be accepted, each time with another buffer too short.
+fn short_buffers() -> Vec<Named> {
+    let rows: [&[(u8, u8, u16)]; 1] = [&[(16, 0, 0x0201), (18, 0, 255)]];
+    let file = Draft::from_rows(&[], &rows).file();
+    let named = |(which, name): (u8, &str)| {
+        let mut bytes = input(FILE | FULL, &file, &[0, 0, 0, 0]);
+        bytes[1] = SHORT_LENGTHS + which;
+        (format!("length-{name}-4"), bytes)
+    };
+    let buffers = ["memory", "log", "report", "work"];
+    (0..).zip(buffers).map(named).collect()
 }
 
 /// The most workers that a broadcast of a plan wakes.
