@@ -3,7 +3,7 @@
 //!
 //! `seeds FOLDER`. tests/fuzz/fuzz.c says how an input is laid out. The inputs
 //! are the same each time: `start-N`, `broadcast-N` and `sum-N` are plans with
-//! their turns, `sleep-N` files with a fault of a sleep record or of a start,
+//! their turns, `commit-N` plans up to their first commit, `sleep-N` files with a fault of a sleep record or of a start,
 //! `long-4` a file of the greatest length and `long-5` one with a record more,
 //! `made-starts`, `made-sleepers` and `made-broadcasts` are steps from which
 //! the target makes a file, `length-*-4` plans with a buffer four bytes short.
@@ -61,6 +61,7 @@ fn write_all(folder: &Path) -> std::io::Result<usize> {
     all.extend(numbered("broadcast", broadcasts(&mut rng)));
     all.push(made_broadcasts());
     all.extend(numbered("sum", sums(&mut rng)));
+    all.extend(numbered("commit", commits()));
     all.extend(short_buffers());
     for (name, bytes) in &all {
         fs::write(folder.join(name), bytes)?;
@@ -144,6 +145,51 @@ fn sums(rng: &mut Rng) -> Vec<Vec<u8>> {
         all.push(input(FILE | memory, &file, &list));
     }
     all
+}
+
+type Row = &'static [(u8, u8, u16)];
+
+/// Each step that commits, alone behind a store: the steps before the store and
+/// behind it. Worker 1 sleeps.
+const COMMITS: [(Row, Row); 15] = [
+    (&[], &[(32, 0, 0), (33, 0, 0)]),
+    (&[(32, 0, 0)], &[(33, 0, 0)]),
+    (&[(32, 0, 0)], &[(34, 0, 0)]),
+    (&[], &[(35, 0, 0)]),
+    (&[(32, 0, 0)], &[(35, 0, 0)]),
+    (&[], &[(36, 0, 0)]),
+    (&[(32, 0, 0)], &[(36, 0, 0)]),
+    (&[], &[(37, 0, 0)]),
+    (&[], &[(37, 0, 1)]),
+    (&[], &[(38, 0, 0)]),
+    (&[], &[]),
+    (&[], &[(39, 0, 1)]),
+    (&[(32, 0, 0)], &[(39, 0, 1)]),
+    (&[], &[(39, 0, 0)]),
+    (&[(32, 0, 0)], &[(39, 0, 0)]),
+];
+
+/// Plans of these, with their turns up to the commit.
+fn commits() -> Vec<Vec<u8>> {
+    let each = |(before, behind): (Row, Row)| {
+        let own = [before, &[(16, 0, 0x0201), (18, 0, 255)], behind].concat();
+        let draft = Draft::from_rows(&[(0, 2), (1, 1)], &[&own, &[]]).asleep(&[1]);
+        let file = draft.file();
+        input(FILE, &file, &turns_to_commit(&file))
+    };
+    COMMITS.into_iter().map(each).collect()
+}
+
+/// Turns of the first worker up to the first that moves the sum from zero.
+fn turns_to_commit(file: &[u8]) -> Vec<u8> {
+    let plan = check(file).expect("an accepted plan");
+    let mut machine = Machine::new(&plan, &[0; MEMORY_LENGTH]);
+    let mut list = Vec::new();
+    while machine.outcome().sum() == 0 {
+        assert!(machine.turn(0), "it commits before it stops");
+        list.push(0);
+    }
+    list
 }
 
 /// A plan that would be accepted, each time with another buffer too short.
