@@ -3,10 +3,12 @@
 
 use std::cmp::Ordering;
 
+use simulator::counts::{Board, ROWS};
 use simulator::format::{LOG_LENGTH, RECORD_LENGTH};
 use simulator::generate::buffers::memory;
 use simulator::generate::last_turn::{cut_moves, last_turn_moves};
 use simulator::generate::{plan, turns, Draft, PlanKind, Rng, Scenarios, TurnKind};
+use simulator::turn_machine::play_counted;
 use simulator::{check, play_rounds, play_turns, Outcome, Plan};
 
 /// Plays one list and compares it with the full run; says whether it ended.
@@ -165,6 +167,34 @@ fn sum_plans() {
         ways[way] += usize::from(outcome.memory != start);
     }
     assert!(ways.iter().all(|&count| count > 5), "{ways:?}");
+}
+
+/// Rows of limits that plans about sums reach by chance.
+const ROWS_OF_COMMITS: [&str; 5] = [
+    "commit that changes memory",
+    "byte written by a commit",
+    "word with bytes of two workers",
+    "store at an odd address",
+    "bytes that would move the sum",
+];
+
+#[test]
+fn sum_plans_meet_what_commits_can() {
+    let mut rng = Rng::new(28);
+    let mut board = Board::new(&ROWS);
+    for _ in 0..3_000 {
+        let draft = plan(&mut rng, PlanKind::Sums);
+        let read = check(&draft.file()).expect("an accepted plan");
+        let start = memory(&mut rng);
+        let list = cut_moves(&mut rng, &draft, &start);
+        let (_, counts) = play_counted(&read, &start, &list);
+        for &(limit, member) in &counts.limits.met {
+            board.count(limit as usize, usize::from(member));
+        }
+    }
+    let of_commits = |name: &String| ROWS_OF_COMMITS.iter().any(|row| name.starts_with(row));
+    let missing: Vec<String> = board.missing().into_iter().filter(of_commits).collect();
+    assert!(missing.is_empty(), "{missing:?}");
 }
 
 #[test]

@@ -171,9 +171,10 @@ impl Row<'_> {
         }
     }
 
-    /// Something that fails, so that the bytes before it are lost.
+    /// Something that fails, so that the bytes before it are lost, at once or,
+    /// with a lock that stays, in the end.
     fn slip(&mut self) {
-        match self.rng.below(4) {
+        match self.rng.below(5) {
             0 => self.put(33, 0, 5),
             1 => self.wait(),
             way => {
@@ -181,7 +182,8 @@ impl Row<'_> {
                 self.write_some();
                 match way {
                     2 => self.put(37, 0, 1),
-                    _ => self.put(38, 0, 0),
+                    3 => self.put(38, 0, 0),
+                    _ => {}
                 }
             }
         }
