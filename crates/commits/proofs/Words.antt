@@ -9,8 +9,9 @@ use lib.ListN.{length, getD}
 use Rattle.protocol.specs.Format.{word}
 use Rattle.protocol.specs.Calls.{memoryLength}
 use Rattle.protocol.specs.Sum.{sumOf}
+use Rattle.protocol.proofs.Sums.{sum-small}
 use Rattle.words.specs.Bytes.{wordAt}
-use Rattle.commits.specs.Blocks.{blockSize, blockWords, wordsFrom, Written}
+use Rattle.commits.specs.Blocks.{blockSize, blockWords, wordsFrom, Written, BlockMoved, Summed}
 
 pub words-none : (memory : List ℕ) (a : ℕ) → wordsFrom memory a 0 ≡ 0
 unfolding wordsFrom
@@ -66,7 +67,7 @@ words-all (suc n) (x ∷ y ∷ rest) e = ap (λ (k : ℕ). word x y + k) (words-
 
 module _ (memory : List ℕ) (n : length memory ≡ memoryLength) where
   -- the words before a block, its own, and those behind it
-  pub sum-parted : (at : ℕ) → at % 2 ≡ 0 → at + blockSize ≤ memoryLength
+  sum-parted : (at : ℕ) → at % 2 ≡ 0 → at + blockSize ≤ memoryLength
       → sumOf memory
       ≡ wordsFrom memory 0 (at / 2) + (wordsFrom memory at blockWords + wordsFrom memory (at + blockSize) (1024 - blockWords - at / 2))
   sum-parted at whole inside =
@@ -78,13 +79,10 @@ module _ (memory : List ℕ) (n : length memory ≡ memoryLength) where
       ∙ ap (λ (a : ℕ). wordsFrom memory 0 (at / 2) + wordsFrom memory a (blockWords + (1024 - blockWords - at / 2))) place
       ∙ ap (λ (k : ℕ). wordsFrom memory 0 (at / 2) + k) (words-parted memory at blockWords _)
 
-  pub block-within : (at : ℕ) → at % 2 ≡ 0 → at + blockSize ≤ memoryLength → wordsFrom memory at blockWords ≤ sumOf memory
-  block-within at whole inside = omega (arith, sum-parted at whole inside)
-
 -- a block that is written moves the sum by as much as its own words moved
 pub block-moves : (first at : ℕ) (work memory memory′ : List ℕ) → length memory ≡ memoryLength → first % 2 ≡ 0 → first + blockSize ≤ memoryLength
     → Written first at blockSize work memory memory′
-    → sumOf memory′ + wordsFrom memory first blockWords ≡ sumOf memory + wordsFrom memory′ first blockWords
+    → BlockMoved first memory memory′
 block-moves first at work memory memory′ n whole inside written =
     omega (
       arith,
@@ -93,3 +91,7 @@ block-moves first at work memory memory′ n whole inside written =
       words-same memory memory′ 0 (first / 2) (λ i h₁ h₂. written .elsewhere i (inl (omega arith))),
       words-same memory memory′ (first + blockSize) (1024 - blockWords - first / 2) (λ i h₁ h₂. written .elsewhere i (inr h₁)),
     )
+
+-- a sum of bytes is within the limit
+pub summed : (memory : List ℕ) (sum : ℕ) → length memory ≡ memoryLength → ((i : ℕ) → getD memory i 0 < 256) → sum ≡ sumOf memory → Summed memory sum
+summed memory sum n small e = record { afresh = e; most = omega (arith, e, sum-small memory small 1024 (omega (arith, n))) }

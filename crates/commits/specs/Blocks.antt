@@ -7,6 +7,7 @@ use mathlib.Core.List.{List}
 use lib.Dec.{eqb}
 use lib.ListN.{length, getD}
 use Rattle.protocol.specs.Pages.{pageSize}
+use Rattle.protocol.specs.Sum.{sumOf}
 use Rattle.protocol.specs.Calls.{memoryLength, workLength}
 use Rattle.words.specs.Bytes.{wordAt}
 use Rattle.pages.specs.Copies.{Lent}
@@ -40,6 +41,19 @@ pub record Written (first at n : ℕ) (work memory memory′ : List ℕ) : Type 
   pub here : (i : ℕ) → i < n → getD memory′ (first + i) 0 ≡ leftOf (getD work (at + i) 0) (getD work (at + pageSize + i) 0) (getD memory (first + i) 0)
   pub elsewhere : (j : ℕ) → (j < first) ⊎ (first + n ≤ j) → getD memory′ j 0 ≡ getD memory j 0
   pub size : length memory′ ≡ length memory
+
+-- the sum moves by as much as the block's own words do
+abbrev pub BlockMoved : ℕ → List ℕ → List ℕ → Type 0
+BlockMoved first memory memory′ = sumOf memory′ + wordsFrom memory first blockWords ≡ sumOf memory + wordsFrom memory′ first blockWords
+
+-- the greatest sum: 1,024 words of 65,535
+abbrev pub sumLimit : ℕ
+sumLimit = 67107840
+
+-- a sum that is kept
+pub record Summed (memory : List ℕ) (sum : ℕ) : Type 0 where
+  pub afresh : sum ≡ sumOf memory
+  pub most : sum ≤ sumLimit
 
 -- the lent bytes have room for a block of whole words at `first`, and for its working copy and twin at `at`
 pub record BlockLent (first at : ℕ) (work memory : List ℕ) : Type 0 where

@@ -14,7 +14,7 @@ ghost use Rattle.protocol.specs.Format.{workersLimit};
 ghost use Rattle.protocol.specs.Pages.{pageSize, pageCount, noCopies, commit};
 ghost use Rattle.protocol.specs.Sum.{sumOf};
 ghost use Rattle.pages.specs.Copies.{Lent, slotCount, slotCopy, copiesIn};
-ghost use Rattle.commits.specs.Blocks.{blockSize, anyDiffers, Written, BlockLent};
+ghost use Rattle.commits.specs.Blocks.{blockSize, anyDiffers, Written, BlockLent, BlockMoved, Summed};
 ghost use Rattle.commits.specs.Committing.{anyCopied, Committed};
 
 // Whether a byte of a block of a working copy differs from its twin. Each is looked at, so that the loop becomes vector code.
@@ -35,8 +35,9 @@ fn differs(work: &[u8], at: usize) -> bool
 
 // Writes the bytes of a block that differ from their twins. Each byte is written, changed or not, so that the loop becomes vector code.
 fn write_block(memory: &mut [u8], work: &[u8], first: usize, at: usize)
-    requires { ⌜ (first + blockSize ≤ length (now memory)) × (at + pageSize + blockSize ≤ length (now work)) ⌝ }
-    ensures { λ _. ⌜ Written first at blockSize (now (work .entry)) (now (memory .entry)) (now (memory .exit)) ⌝ }
+    requires { ⌜ BlockLent first at (now work) (now memory) ⌝ }
+    ensures { λ _. ⌜ Written first at blockSize (now (work .entry)) (now (memory .entry)) (now (memory .exit))
+        × BlockMoved first (now (memory .entry)) (now (memory .exit)) ⌝ }
 {
     let mut i = 0;
     while i < Block::SIZE {
@@ -48,10 +49,10 @@ fn write_block(memory: &mut [u8], work: &[u8], first: usize, at: usize)
     }
 }
 
-// Commits a block. The sum falls by the block's words as they stood in shared memory, and rises by those that stand there now.
+// Commits a block. The sum rises by the block's words as they stand in shared memory now, and falls by those that stood there before.
 fn commit_block(memory: &mut [u8], work: &[u8], first: usize, at: usize, sum: u32) -> u32
-    requires { ⌜ BlockLent first at (now work) (now memory) × (sum ≡ sumOf (now memory)) ⌝ }
-    ensures { λ r. ⌜ Written first at blockSize (now (work .entry)) (now (memory .entry)) (now (memory .exit)) × (r ≡ sumOf (now (memory .exit))) ⌝ }
+    requires { ⌜ BlockLent first at (now work) (now memory) × Summed (now memory) sum ⌝ }
+    ensures { λ r. ⌜ Written first at blockSize (now (work .entry)) (now (memory .entry)) (now (memory .exit)) × Summed (now (memory .exit)) r ⌝ }
 {
     if !differs(work, at) {
         return sum;
@@ -59,7 +60,7 @@ fn commit_block(memory: &mut [u8], work: &[u8], first: usize, at: usize, sum: u3
     let before = block_sum(memory, first);
     write_block(memory, work, first, at);
     let after = block_sum(memory, first);
-    sum - before + after
+    sum + after - before
 }
 
 // Commits the page of a slot, unless the slot is unused.
@@ -71,9 +72,9 @@ fn commit_page(
     slot: usize,
     sum: u32,
 ) -> u32
-    requires { ⌜ Lent (now memory) (now work) × (p < pageCount) × (slot < slotCount) × (sum ≡ sumOf (now memory)) ⌝ }
+    requires { ⌜ Lent (now memory) (now work) × (p < pageCount) × (slot < slotCount) × Summed (now memory) sum ⌝ }
     ensures { λ r. ⌜ (now (memory .exit) ≡ commit (set noCopies p (slotCopy (now (copied .entry)) (now (work .entry)) slot)) (now (memory .entry)))
-        × (r ≡ sumOf (now (memory .exit))) ⌝ }
+        × Summed (now (memory .exit)) r ⌝ }
 {
     if !copied[slot] {
         return sum;
@@ -90,9 +91,9 @@ fn commit_page(
 }
 
 fn commit_pages(memory: &mut [u8], work: &[u8], copied: &[bool; SLOTS], w: usize, sum: u32) -> u32
-    requires { ⌜ Lent (now memory) (now work) × (w < workersLimit) × (sum ≡ sumOf (now memory)) ⌝ }
+    requires { ⌜ Lent (now memory) (now work) × (w < workersLimit) × Summed (now memory) sum ⌝ }
     ensures { λ r. ⌜ (now (memory .exit) ≡ commit (copiesIn (now (copied .entry)) (now (work .entry)) w) (now (memory .entry)))
-        × (r ≡ sumOf (now (memory .exit))) ⌝ }
+        × Summed (now (memory .exit)) r ⌝ }
 {
     let mut total = sum;
     let mut p = 0;

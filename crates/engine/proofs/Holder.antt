@@ -184,8 +184,8 @@ module _ {r : Record} {w : ℕ} {t : Schedule} {sizes : List ℕ} {k : Kept} (h 
               over = turned;
             }
 
-        -- with the log's records counted by the mark that the writer gives, and the moves however the code counts them
-        pub shown : {moves′ : ℕ} → moves′ ≡ t .counts .moves + 1
-            → AfterMove plan s w t (scheduled (d .lists) o (record { moves = moves′; rounds = o .rounds; records = records′ }) sum′)
+        -- with the log's records counted by the mark that the writer gives, and the moves and the sum however the code comes by them
+        pub shown : {moves′ sum″ : ℕ} → moves′ ≡ t .counts .moves + 1 → sum″ ≡ sum′
+            → AfterMove plan s w t (scheduled (d .lists) o (record { moves = moves′; rounds = o .rounds; records = records′ }) sum″)
             (heldKept k w v fates′ can′ copied′ memory′ log′)
-        shown once = rw (once, counted) (hold-simulates (h .here) near step done)
+        shown once same = rw (once, counted, same) (hold-simulates (h .here) near step done)

@@ -100,7 +100,7 @@ pub fn hold(
     let d = decide(r.op, r.number, w, count, sizes, lists, fates);
     let after = d.lists;
     let bytes = d.bytes;
-    let sum = settle_bytes(bytes, w, memory, work, copied, t.sum);
+    let moved = settle_bytes(bytes, w, memory, work, copied, t.sum);
     let v = Worker {
         place: places[w],
         held: count,
@@ -129,6 +129,6 @@ pub fn hold(
             rounds: round.rounds,
             records,
         },
-        sum,
+        sum: moved,
     }
 }

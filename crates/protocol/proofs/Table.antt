@@ -140,6 +140,10 @@ leave (w ∷ ws) = entry 2 w 38 0 255 ++ leave ws
 abbrev case : List ℕ → List ℕ → Fed → List ℕ → List ℕ → List ℕ → Case
 case f l t m g r = record { file = f; lent = l; fed = t; memory = m; log = g; report = r }
 
+-- one worker commits a 9 at 0, and then fails
+abbrev fails : List ℕ → List ℕ → ℕ → ℕ → ℕ → Case
+fails steps log moves rounds records = case (planRec 1 ++ steps) [] listing (9 ∷ []) log (report 1 1 moves rounds records (one 2) (small 9))
+
 unfoldable pub cases : List Case
 cases =
     -- 1, race: "At the end memory begins 01 00 01 00." "1 0 38 0 255", "1 1 38 0 255", "finished 12"
@@ -231,8 +235,16 @@ cases =
     (report 1 3 24 2 18 (replicate 3 1 ++ replicate 5 255) (small 0))
     -- Three, "at every commit": address 0 holds 5 and both store 7 there. The second commit writes what stands there, and moves nothing.
     ∷ case (planRec 2 ++ stores 0 7 ++ stores 1 7) (5 ∷ []) listing (7 ∷ []) (exits 1) (report 1 2 8 1 2 (both 1 1) (small 7))
-    -- .. and the commit of a wait, behind which the worker stays.
+    -- Three, "every step that commits passes this on": a worker stores 9, commits, and stays at its wait or barrier ..
     ∷ case (planRec 1 ++ rec 0 32 0 0 ++ stores 0 9 ++ rec 0 34 0 0) [] listing (9 ∷ []) (waited 0 0) (report 2 1 5 1 2 (one 3) (small 9))
+    ∷ case (planRec 1 ++ rec 0 1 0 2 ++ stores 0 9 ++ rec 0 37 0 0) [] listing (9 ∷ []) (entry 1 0 37 0 0) (report 2 1 4 1 1 (one 4) (small 9))
+    -- .. or fails, behind a lock, an unlock, a signal, a broadcast, a barrier of size 1 and a start of its own.
+    ∷ fails (stores 0 9 ++ rec 0 32 0 0 ++ rec 0 38 0 0) (entry 1 0 32 0 1 ++ entry 1 0 38 0 254) 5 1 2
+    ∷ fails (locked 0 (stores 0 9) ++ rec 0 33 0 0) (entry 1 0 32 0 1 ++ unlocked 0 ++ entry 2 0 33 0 254) 7 2 3
+    ∷ fails (stores 0 9 ++ rec 0 35 0 0 ++ rec 0 33 0 0) (entry 1 0 35 0 255 ++ entry 2 0 33 0 254) 6 2 2
+    ∷ fails (stores 0 9 ++ rec 0 36 0 0 ++ rec 0 33 0 0) (entry 1 0 36 0 0 ++ entry 2 0 33 0 254) 6 2 2
+    ∷ fails (rec 0 1 0 1 ++ stores 0 9 ++ rec 0 37 0 0 ++ rec 0 33 0 0) (entry 1 0 37 0 1 ++ entry 2 0 33 0 254) 6 2 2
+    ∷ fails (stores 0 9 ++ rec 0 39 0 0 ++ rec 0 33 0 0) (entry 1 0 39 0 253 ++ entry 1 0 33 0 254) 5 1 2
     -- Three, a word of two words: 770 at 1 is 2 in the upper byte of the word at 0, and 3 in the lower one of the next.
     ∷ case (planRec 1 ++ storesAt 0 770 1) [] listing (0 ∷ 2 ∷ 3 ∷ []) (entry 1 0 38 0 255) (report 1 1 4 1 1 (one 1) (sum 3 2 0 0))
     -- .. and of two pages: 770 at 255.

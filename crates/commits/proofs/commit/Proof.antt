@@ -1,4 +1,5 @@
 -- `commit`: the parts of its contract are those of its calls; a worker without a copy has nothing to commit.
+use native.Mathlib.Omega.{arith}
 use borrow.Author.Needs.{needs}
 use borrow.Author.Tests.{not-true}
 use Prim.Native.Nat.{ℕ}
@@ -9,6 +10,7 @@ use Rattle.protocol.specs.Sum.{sumOf, movedBy, commitChange}
 use Rattle.protocol.proofs.Sums.{commit-moves}
 use Rattle.pages.specs.Copies.{copiesIn}
 use Rattle.pages.proofs.Slots.{unmarked-worker}
+use Rattle.commits.proofs.Words.{summed}
 use Rattle.commits.proofs.Commits.{none-copied, commit-none, commit-size}
 use Rattle.commits.proofs.commit.Statement.{statement}
 use Rattle.commits.proofs.commit.Tie as tie
@@ -32,7 +34,11 @@ returns c =
     record { shared = same; moved = sum-moved (copiesIn (a .copied .now) (a .work .now) (a .w)) memory same (search needs) (search needs); dropped = dropped; size = refl }
 
 commit-pages-requires : tie.Need-commit-pages-requires
-commit-pages-requires c κs = search needs
+commit-pages-requires c κs =
+    let known = c .before .before .before .before .before .before in
+    let start = known .before in
+    let a = start .args in
+    (start .pre .0, start .pre .1, summed (a .memory .now) (a .sum) (start .pre .0 .memoryLength) (λ i. omega (arith, known .slice-known .given i)) (start .pre .2))
 
 discard-requires : tie.Need-discard-requires
 discard-requires c κs = search needs
@@ -46,7 +52,7 @@ returns-2 c =
     let a = called .before .before .before .before .before .before .before .before .args in
     record {
       shared = called .commit-pages .ensures .0;
-      moved = sum-moved (copiesIn (a .copied .now) (a .work .now) (a .w)) (a .memory .now) (called .commit-pages .ensures .0) (search needs) (called .commit-pages .ensures .1);
+      moved = sum-moved (copiesIn (a .copied .now) (a .work .now) (a .w)) (a .memory .now) (called .commit-pages .ensures .0) (search needs) (omega arith);
       dropped = c .discard .ensures (a .work .now);
       size = commit-size (copiesIn (a .copied .now) (a .work .now) (a .w)) (a .memory .now) (called .commit-pages .last .0) (called .commit-pages .ensures .0);
     }

@@ -6,10 +6,9 @@ use lib.ListN.{length}
 use borrow.Author.Tests.{not-true, not-false}
 use borrow.Author.Needs.{needs}
 use Rattle.protocol.specs.Pages.{pageSize}
-use Rattle.protocol.specs.Sum.{sumOf}
 use Rattle.pages.specs.Copies.{copyAt}
 use Rattle.pages.proofs.Slots.{not-in-use}
-use Rattle.commits.specs.Blocks.{blockSize, Written}
+use Rattle.commits.specs.Blocks.{blockSize, Written, Summed}
 use Rattle.commits.proofs.Writing.{written-none, written-on}
 use Rattle.commits.proofs.Commits.{commit-unused, page-written}
 use Rattle.commits.proofs.commit_page.Statement.{statement}
@@ -20,7 +19,7 @@ Inv-loop memory₀ work copied p slot sum first at total₀ k₀ memory total k 
     (k ≤ pageSize)
     × (k % blockSize ≡ 0)
     × (length memory ≡ length memory₀)
-    × (total ≡ sumOf memory)
+    × Summed memory total
     × Written (pageSize * p) (copyAt slot) k work memory₀ memory
 
 abbrev μ-loop : tie.MeasureT-loop

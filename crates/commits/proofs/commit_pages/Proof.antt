@@ -6,7 +6,7 @@ use lib.ListN.{length, take}
 use lib.Seq.{take-all}
 use borrow.Author.Needs.{needs}
 use Rattle.protocol.specs.Pages.{pageCount, Copies, commit}
-use Rattle.protocol.specs.Sum.{sumOf}
+use Rattle.commits.specs.Blocks.{Summed}
 use Rattle.pages.specs.Copies.{copyIn, copiesIn}
 use Rattle.pages.proofs.Slots.{length-copies, copies-at}
 use Rattle.commits.proofs.Commits.{commit-nothing, pages-more}
@@ -15,7 +15,7 @@ use Rattle.commits.proofs.commit_pages.Tie as tie
 
 abbrev Inv-loop : tie.InvT-loop
 Inv-loop memory₀ work copied w sum total₀ p₀ memory total p =
-    (p ≤ pageCount) × (length memory ≡ length memory₀) × (memory ≡ commit (take p (copiesIn copied work w)) memory₀) × (total ≡ sumOf memory)
+    (p ≤ pageCount) × (length memory ≡ length memory₀) × (memory ≡ commit (take p (copiesIn copied work w)) memory₀) × Summed memory total
 
 abbrev μ-loop : tie.MeasureT-loop
 μ-loop memory₀ work copied w sum total₀ p₀ memory total p = pageCount - p

@@ -6,6 +6,7 @@ use mathlib.Core.Path.{_≡_, refl, subst}
 use borrow.Author.Needs.{needs}
 use lib.ListN.{length}
 use Rattle.commits.specs.Blocks.{blockSize, Written}
+use Rattle.commits.proofs.Words.{block-moves}
 use Rattle.commits.proofs.Writing.{written-none, written-more}
 use Rattle.commits.proofs.write_block.Statement.{statement}
 use Rattle.commits.proofs.write_block.Tie as tie
@@ -70,7 +71,9 @@ returns c =
     let l = c .before in
     let a = l .before .args in
     let all : l .loop .i ≡ blockSize = omega arith in
-    subst (λ (n : ℕ). Written (a .first) (a .at) n (a .work .now) (a .memory .now) (l .loop .memory)) all (l .loop .inv .2)
+    let p = l .before .pre in
+    let written = subst (λ (n : ℕ). Written (a .first) (a .at) n (a .work .now) (a .memory .now) (l .loop .memory)) all (l .loop .inv .2) in
+    (written, block-moves (a .first) (a .at) (a .work .now) (a .memory .now) (l .loop .memory) (p .bytes .memoryLength) (p .whole) (p .inside) written)
 
 pub write-block-spec : {M : Type 1} → statement M
 write-block-spec =

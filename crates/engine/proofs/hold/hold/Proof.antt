@@ -119,6 +119,7 @@ returns c =
     (recorded .record-step .ensures .1)
     (turned .turn-over .ensures)
     (omega arith)
+    (omega arith)
 
 pub hold-spec : {M : Type 1} → statement M
 hold-spec =
