@@ -14,7 +14,7 @@ use Rattle.protocol.proofs.Lists.{getD-copies}
 use Rattle.pages.specs.Copies.{part, slotOf, copyAt, twinAt, slotCopy}
 use Rattle.pages.proofs.Parts.{getD-part}
 use Rattle.pages.proofs.Slots.{in-use}
-use Rattle.commits.specs.Blocks.{leftOf, Written}
+use Rattle.commits.specs.Blocks.{leftOf, BytesWritten}
 use Rattle.commits.specs.Committing.{anyCopied}
 
 -- ---- the first elements of a list, and one more of them
@@ -113,7 +113,7 @@ commit-unused p h memory copy e = commit-same p h memory copy (λ o s. ap (λ (k
 
 -- all bytes of the page of a slot in use are committed
 module _ (p slot : ℕ) (h : p < pageCount) (marks : List Bool) (work memory memory′ : List ℕ) (on : getD marks slot false ≡ true)
-    (written : Written (pageSize * p) (copyAt slot) pageSize work memory memory′) where
+    (written : BytesWritten (pageSize * p) (copyAt slot) pageSize work memory memory′) where
   byte-there : (j : ℕ) → pageOf j ≡ p → getD memory′ j 0 ≡ committed (slotCopy marks work slot) (offsetOf j) (getD memory j 0)
   byte-there j e =
       let place : pageSize * p + offsetOf j ≡ j = omega arith in

@@ -11,7 +11,7 @@ use Rattle.protocol.specs.Calls.{memoryLength}
 use Rattle.protocol.specs.Sum.{sumOf}
 use Rattle.protocol.proofs.Sums.{sum-small}
 use Rattle.words.specs.Bytes.{wordAt}
-use Rattle.commits.specs.Blocks.{blockSize, blockWords, wordsFrom, Written, BlockMoved, Summed}
+use Rattle.commits.specs.Blocks.{blockSize, blockWords, wordsFrom, BytesWritten, BlockMoved, Summed}
 
 pub words-none : (memory : List ℕ) (a : ℕ) → wordsFrom memory a 0 ≡ 0
 unfolding wordsFrom
@@ -81,7 +81,7 @@ module _ (memory : List ℕ) (n : length memory ≡ memoryLength) where
 
 -- a block that is written moves the sum by as much as its own words moved
 pub block-moves : (first at : ℕ) (work memory memory′ : List ℕ) → length memory ≡ memoryLength → first % 2 ≡ 0 → first + blockSize ≤ memoryLength
-    → Written first at blockSize work memory memory′
+    → BytesWritten first at blockSize work memory memory′
     → BlockMoved first memory memory′
 block-moves first at work memory memory′ n whole inside written =
     omega (

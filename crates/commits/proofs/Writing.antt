@@ -13,9 +13,9 @@ use borrow.Author.Tests.{eq-eqb, ne-eqb}
 use Rattle.protocol.specs.Pages.{pageSize}
 use Rattle.protocol.proofs.Bools.{or-left, or-right}
 use Rattle.protocol.proofs.Counting.{clash}
-use Rattle.commits.specs.Blocks.{anyDiffers, leftOf, Written}
+use Rattle.commits.specs.Blocks.{anyDiffers, leftOf, BytesWritten}
 
-pub written-none : (first at : ℕ) (work memory : List ℕ) → Written first at 0 work memory memory
+pub written-none : (first at : ℕ) (work memory : List ℕ) → BytesWritten first at 0 work memory memory
 written-none first at work memory = record { here = λ i h. absurd (omega arith); elsewhere = λ j h. refl; size = refl }
 
 -- the choice of a byte, however the code tests for it
@@ -33,9 +33,9 @@ module _ (first at : ℕ) (work memory : List ℕ) where
   left i shared = leftOf (getD work (at + i) 0) (getD work (at + pageSize + i) 0) shared
 
   -- one byte behind i of them
-  written-next : (m : List ℕ) (i v : ℕ) → Written first at i work memory m → first + i < length m
+  written-next : (m : List ℕ) (i v : ℕ) → BytesWritten first at i work memory m → first + i < length m
       → Chosen (getD m (first + i) 0) (getD work (at + i) 0) (getD work (at + pageSize + i) 0) v
-      → Written first at (i + 1) work memory (set m (first + i) v)
+      → BytesWritten first at (i + 1) work memory (set m (first + i) v)
   written-next m i v w inside f =
       record {
         here = λ k h. elim (ℕ-discrete k i) [
@@ -61,15 +61,15 @@ module _ (first at : ℕ) (work memory : List ℕ) where
       further j (inr h) = inr (omega arith)
 
   -- .. wherever the code works out that it stands
-  pub written-more : (m : List ℕ) (i x v : ℕ) → Written first at i work memory m → x < length m → x ≡ first + i
+  pub written-more : (m : List ℕ) (i x v : ℕ) → BytesWritten first at i work memory m → x < length m → x ≡ first + i
       → Chosen (getD m x 0) (getD work (at + i) 0) (getD work (at + pageSize + i) 0) v
-      → Written first at (i + 1) work memory (set m x v)
+      → BytesWritten first at (i + 1) work memory (set m x v)
   written-more m i x v w inside e f =
-      subst⁻¹ (λ (n : ℕ). Written first at (i + 1) work memory (set m n v)) e (written-next m i v w (rw e at inside) (rw e at f))
+      subst⁻¹ (λ (n : ℕ). BytesWritten first at (i + 1) work memory (set m n v)) e (written-next m i v w (rw e at inside) (rw e at f))
 
   -- n bytes behind k of them
-  pub written-on : (m m′ : List ℕ) (k n : ℕ) → Written first at k work memory m → Written (first + k) (at + k) n work m m′
-      → Written first at (k + n) work memory m′
+  pub written-on : (m m′ : List ℕ) (k n : ℕ) → BytesWritten first at k work memory m → BytesWritten (first + k) (at + k) n work m m′
+      → BytesWritten first at (k + n) work memory m′
   written-on m m′ k n before behind =
       record {
         here = λ i h. elim (decLt i k) [
@@ -121,7 +121,7 @@ kept-byte true shared byte e = refl
 kept-byte false shared byte e = clash (sym e)
 
 -- nothing is written, and all is committed
-pub written-same : (first at n : ℕ) (work memory : List ℕ) → anyDiffers work at n ≡ false → Written first at n work memory memory
+pub written-same : (first at n : ℕ) (work memory : List ℕ) → anyDiffers work at n ≡ false → BytesWritten first at n work memory memory
 written-same first at n work memory e =
     record {
       here = λ i h. kept-byte (eqb (getD work (at + i) 0) (getD work (at + pageSize + i) 0)) (getD memory (first + i) 0) (getD work (at + i) 0) (same-bytes work at n e i h);

@@ -37,7 +37,7 @@ abbrev pub leftOf : ℕ → ℕ → ℕ → ℕ
 leftOf b t shared = cond (eqb b t) shared b
 
 -- Committed are n bytes, those from `at` on in the working copy and from `first` on in shared memory, and no other.
-pub record Written (first at n : ℕ) (work memory memory′ : List ℕ) : Type 0 where
+pub record BytesWritten (first at n : ℕ) (work memory memory′ : List ℕ) : Type 0 where
   pub here : (i : ℕ) → i < n → getD memory′ (first + i) 0 ≡ leftOf (getD work (at + i) 0) (getD work (at + pageSize + i) 0) (getD memory (first + i) 0)
   pub elsewhere : (j : ℕ) → (j < first) ⊎ (first + n ≤ j) → getD memory′ j 0 ≡ getD memory j 0
   pub size : length memory′ ≡ length memory

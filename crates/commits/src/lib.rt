@@ -14,7 +14,7 @@ ghost use Rattle.protocol.specs.Format.{workersLimit};
 ghost use Rattle.protocol.specs.Pages.{pageSize, pageCount, noCopies, commit};
 ghost use Rattle.protocol.specs.Sum.{sumOf};
 ghost use Rattle.pages.specs.Copies.{Lent, slotCount, slotCopy, copiesIn};
-ghost use Rattle.commits.specs.Blocks.{blockSize, anyDiffers, Written, BlockLent, BlockMoved, Summed};
+ghost use Rattle.commits.specs.Blocks.{blockSize, anyDiffers, BytesWritten, BlockLent, BlockMoved, Summed};
 ghost use Rattle.commits.specs.Committing.{anyCopied, Committed};
 
 // Whether a byte of a block of a working copy differs from its twin. Each is looked at, so that the loop becomes vector code.
@@ -36,7 +36,7 @@ fn differs(work: &[u8], at: usize) -> bool
 // Writes the bytes of a block that differ from their twins. Each byte is written, changed or not, so that the loop becomes vector code.
 fn write_block(memory: &mut [u8], work: &[u8], first: usize, at: usize)
     requires { ⌜ BlockLent first at (now work) (now memory) ⌝ }
-    ensures { λ _. ⌜ Written first at blockSize (now (work .entry)) (now (memory .entry)) (now (memory .exit))
+    ensures { λ _. ⌜ BytesWritten first at blockSize (now (work .entry)) (now (memory .entry)) (now (memory .exit))
         × BlockMoved first (now (memory .entry)) (now (memory .exit)) ⌝ }
 {
     let mut i = 0;
@@ -52,7 +52,7 @@ fn write_block(memory: &mut [u8], work: &[u8], first: usize, at: usize)
 // Commits a block. The sum rises by the block's words as they stand in shared memory now, and falls by those that stood there before.
 fn commit_block(memory: &mut [u8], work: &[u8], first: usize, at: usize, sum: u32) -> u32
     requires { ⌜ BlockLent first at (now work) (now memory) × Summed (now memory) sum ⌝ }
-    ensures { λ r. ⌜ Written first at blockSize (now (work .entry)) (now (memory .entry)) (now (memory .exit)) × Summed (now (memory .exit)) r ⌝ }
+    ensures { λ r. ⌜ BytesWritten first at blockSize (now (work .entry)) (now (memory .entry)) (now (memory .exit)) × Summed (now (memory .exit)) r ⌝ }
 {
     if !differs(work, at) {
         return sum;

@@ -66,7 +66,9 @@ move-moves plan s w = go (stepAt plan w (workerAt s w .place)) (workerAt s w .ar
     go : (y : Step) (here : Bool) → sumOf (moveBy plan y here w s .memory) ≡ movedBy (changeBy plan y here w s) (sumOf (s .memory))
     go (own o) here = omega arith
     go (sync y) false = omega arith
-    go (sync y) true = ap sumOf (closed-memory (syncMove plan y w (behind (s .list)) s)) ∙ settle-moves (ruleOf plan (queueOf s) (fateIn s) (workerAt s w .held) y .bytes) (workerAt s w .copies) (s .memory)
+    go (sync y) true =
+        ap sumOf (closed-memory (syncMove plan y w (behind (s .list)) s))
+        ∙ settle-moves (ruleOf plan (queueOf s) (fateIn s) (workerAt s w .held) y .bytes) (workerAt s w .copies) (s .memory)
 
 pub kept-afresh : (plan : Plan) (s : State) (turns : List ℕ) → keptSum plan s (sumOf (s .memory)) turns ≡ sumOf (play plan s turns .memory)
 unfolding keptSum play turn

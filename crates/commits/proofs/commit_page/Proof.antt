@@ -8,7 +8,7 @@ use borrow.Author.Needs.{needs}
 use Rattle.protocol.specs.Pages.{pageSize}
 use Rattle.pages.specs.Copies.{copyAt}
 use Rattle.pages.proofs.Slots.{not-in-use}
-use Rattle.commits.specs.Blocks.{blockSize, Written, Summed}
+use Rattle.commits.specs.Blocks.{blockSize, BytesWritten, Summed}
 use Rattle.commits.proofs.Writing.{written-none, written-on}
 use Rattle.commits.proofs.Commits.{commit-unused, page-written}
 use Rattle.commits.proofs.commit_page.Statement.{statement}
@@ -20,7 +20,7 @@ Inv-loop memory₀ work copied p slot sum first at total₀ k₀ memory total k 
     × (k % blockSize ≡ 0)
     × (length memory ≡ length memory₀)
     × Summed memory total
-    × Written (pageSize * p) (copyAt slot) k work memory₀ memory
+    × BytesWritten (pageSize * p) (copyAt slot) k work memory₀ memory
 
 abbrev μ-loop : tie.MeasureT-loop
 μ-loop memory₀ work copied p slot sum first at total₀ k₀ memory total k = pageSize - k
@@ -88,7 +88,7 @@ returns-2 c =
     let a = start .args in
     let all : l .loop .k ≡ pageSize = omega arith in (
       page-written (a .p) (a .slot) (search needs) (a .copied .now) (a .work .now) (a .memory .now) (l .loop .memory) (not-false _ (used .if1 .left))
-          (subst (λ (n : ℕ). Written (pageSize * a .p) (copyAt (a .slot)) n (a .work .now) (a .memory .now) (l .loop .memory)) all (l .loop .inv .4)),
+          (subst (λ (n : ℕ). BytesWritten (pageSize * a .p) (copyAt (a .slot)) n (a .work .now) (a .memory .now) (l .loop .memory)) all (l .loop .inv .4)),
       l .loop .inv .3,
     )
 

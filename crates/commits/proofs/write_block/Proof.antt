@@ -5,14 +5,14 @@ use mathlib.Core.Logic.{⊎-elim}
 use mathlib.Core.Path.{_≡_, refl, subst}
 use borrow.Author.Needs.{needs}
 use lib.ListN.{length}
-use Rattle.commits.specs.Blocks.{blockSize, Written}
+use Rattle.commits.specs.Blocks.{blockSize, BytesWritten}
 use Rattle.commits.proofs.Words.{block-moves}
 use Rattle.commits.proofs.Writing.{written-none, written-more}
 use Rattle.commits.proofs.write_block.Statement.{statement}
 use Rattle.commits.proofs.write_block.Tie as tie
 
 abbrev Inv-loop : tie.InvT-loop
-Inv-loop memory₀ work first at i₀ memory i = (i ≤ blockSize) × (length memory ≡ length memory₀) × Written first at i work memory₀ memory
+Inv-loop memory₀ work first at i₀ memory i = (i ≤ blockSize) × (length memory ≡ length memory₀) × BytesWritten first at i work memory₀ memory
 
 abbrev μ-loop : tie.MeasureT-loop
 μ-loop memory₀ work first at i₀ memory i = blockSize - i
@@ -72,7 +72,7 @@ returns c =
     let a = l .before .args in
     let all : l .loop .i ≡ blockSize = omega arith in
     let p = l .before .pre in
-    let written = subst (λ (n : ℕ). Written (a .first) (a .at) n (a .work .now) (a .memory .now) (l .loop .memory)) all (l .loop .inv .2) in
+    let written = subst (λ (n : ℕ). BytesWritten (a .first) (a .at) n (a .work .now) (a .memory .now) (l .loop .memory)) all (l .loop .inv .2) in
     (written, block-moves (a .first) (a .at) (a .work .now) (a .memory .now) (l .loop .memory) (p .bytes .memoryLength) (p .whole) (p .inside) written)
 
 pub write-block-spec : {M : Type 1} → statement M
