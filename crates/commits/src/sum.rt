@@ -32,7 +32,7 @@ pub fn block_sum(memory: &[u8], at: usize) -> u32
 }
 
 // The sum of all words.
-pub fn memory_sum(memory: &[u8]) -> u32
+pub fn whole_sum(memory: &[u8]) -> u32
     requires { ⌜ length (now memory) ≡ memoryLength ⌝ }
     ensures { λ r. ⌜ r ≡ sumOf (now (memory .entry)) ⌝ }
 {

@@ -3,7 +3,7 @@ use crate::own::play_own;
 use crate::state::Played;
 use crate::state::Schedule;
 use crate::sync::sync;
-use commits::sum::memory_sum;
+use commits::sum::whole_sum;
 use format::fates::GOING;
 use format::limits::BARRIER_COUNT;
 use format::limits::WORKERS_LIMIT;
@@ -47,7 +47,7 @@ fn first_round(
             rounds: 0,
             records: 0,
         },
-        sum: memory_sum(memory),
+        sum: whole_sum(memory),
     }
 }
 

@@ -1,12 +1,12 @@
 -- Document 01's page copies, as they stand in the marks and the bytes of `work`.
-use Prim.Native.Nat.{ℕ, zero, suc, _+_, _*_}
+use Prim.Native.Nat.{ℕ, _+_, _*_}
 use mathlib.Core.Path.{_≡_}
-use mathlib.Core.Bool.{Bool, true, false, _||_}
+use mathlib.Core.Bool.{Bool, true, false}
 use mathlib.Core.List.{List, map}
 use lib.ListN.{length, getD, take, drop}
 use Rattle.protocol.specs.Format.{workersLimit, upTo}
 use Rattle.protocol.specs.Calls as calls
-use Rattle.protocol.specs.Pages.{pageSize, pageCount, Copy, absent, copied, Copies, noCopies, commit}
+use Rattle.protocol.specs.Pages.{pageSize, pageCount, Copy, absent, copied, Copies}
 
 -- a page's worth of bytes, from a place on
 abbrev pub part : ℕ → List ℕ → List ℕ

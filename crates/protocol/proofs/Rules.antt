@@ -10,8 +10,8 @@ use lib.Dec.{eqb, ltb}
 use lib.ListN.{length, getD}
 use Rattle.protocol.specs.Format.{Sync, lock, unlock, wait, signal, broadcast, barrier, startWorker, exit, sync, Plan}
 use Rattle.protocol.specs.Steps.{QueueName, onCondition, atBarrier, Fate, going, exited, failed, asleep, waiting, stepsOf, stepAt}
-use Rattle.protocol.specs.Rounds.{State, workerAt, waitsOn, keep, queueOf, fateIn, isAsleep, Uncommitted, committed, lost, Goes, keeps, gives, leaves, ruling, failure, givesAtZero}
-use Rattle.protocol.specs.Rounds.{commitsAtZero, lockRule, unlockRule, waitRule, wakeRule, signalRule, broadcastRule, barrierRule, startRule, exitRule, ruleOf, fateAfter, hasArrived}
+use Rattle.protocol.specs.Rounds.{Ruling, State, workerAt, waitsOn, keep, queueOf, fateIn, isAsleep, Uncommitted, lost, Goes, keeps, gives, leaves, ruling, failure, givesAtZero}
+use Rattle.protocol.specs.Rounds.{lockRule, unlockRule, waitRule, wakeRule, signalRule, broadcastRule, barrierRule, startRule, exitRule, ruleOf, fateAfter, hasArrived}
 use Rattle.protocol.specs.Demands.{occurs}
 use Rattle.protocol.proofs.Bools.{split}
 use Rattle.protocol.proofs.Invariant.{runs, waits, rests, gone, Core}
@@ -102,14 +102,15 @@ module _ (plan : Plan) (s : State) (h : ℕ) (c : Core plan s) (l : Listed plan 
   fails =
       quiet lost (workerAt s h .held) (leaves failed) 254 (omega (arith, c .sane h .heldPlace)) (c .sane h .heldSteps) (omega (arith, l .place)) refl
 
+  -- a rule that goes by a test is lawful if both of its ways are
+  by-test : (b : Bool) (R R′ : Ruling) → Lawful plan s h R → Lawful plan s h R′ → Lawful plan s h (cond b R R′)
+  by-test true R R′ one other = one
+  by-test false R R′ one other = other
+
   exits : Lawful plan s h (exitRule (workerAt s h .held))
-  exits = go (not (eqb (workerAt s h .held) 0))
-    where
-      go : (b : Bool)
-          → Lawful plan s h (cond b (failure (workerAt s h .held)) (ruling committed (workerAt s h .held) (leaves exited) [] [] 255))
-      go true = fails
-      go false =
-          quiet committed (workerAt s h .held) (leaves exited) 255 (omega (arith, c .sane h .heldPlace)) (c .sane h .heldSteps) (omega (arith, l .place)) refl
+  exits =
+      by-test (not (eqb (workerAt s h .held) 0)) _ _ fails
+      (quiet _ _ (leaves exited) _ (omega (arith, c .sane h .heldPlace)) (c .sane h .heldSteps) (omega (arith, l .place)) refl)
 
   -- all but the exit stand inside the steps
   module _ (i : workerAt s h .place < length (stepsOf plan h)) where
@@ -121,23 +122,16 @@ module _ (plan : Plan) (s : State) (h : ℕ) (c : Core plan s) (l : Listed plan 
     gives-or-keeps false = (refl, tt)
 
     unlocks : Lawful plan s h (unlockRule (workerAt s h .held))
-    unlocks = go (eqb (workerAt s h .held) 0)
-      where
-        k : ℕ
-        k = workerAt s h .held - 1
-
-        go : (b : Bool) → Lawful plan s h (cond b (failure (workerAt s h .held)) (ruling (commitsAtZero k) k (givesAtZero k) [] [] k))
-        go true = fails
-        go false =
-            quiet _ _ (givesAtZero k) _ (omega (arith, c .sane h .heldPlace)) (omega (arith, c .sane h .heldSteps))
-            (omega (arith, gives-or-keeps (eqb k 0) .0)) (gives-or-keeps (eqb k 0) .1)
+    unlocks =
+        let left = gives-or-keeps (eqb (workerAt s h .held - 1) 0) in
+        by-test (eqb (workerAt s h .held) 0) _ _ fails
+        (quiet _ _ (givesAtZero (workerAt s h .held - 1)) _ (omega (arith, c .sane h .heldPlace)) (omega (arith, c .sane h .heldSteps))
+        (omega (arith, left .0)) (left .1))
 
     waits-on : (q : ℕ) → Lawful plan s h (waitRule q (workerAt s h .held))
-    waits-on q = go (eqb (workerAt s h .held) 0)
-      where
-        go : (b : Bool) → Lawful plan s h (cond b (failure (workerAt s h .held)) (ruling committed (workerAt s h .held) (leaves (waiting (onCondition q))) [] [] 255))
-        go true = fails
-        go false = quiet _ _ (leaves (waiting (onCondition q))) _ (omega (arith, c .sane h .heldPlace)) (c .sane h .heldSteps) (omega arith) refl
+    waits-on q =
+        by-test (eqb (workerAt s h .held) 0) _ _ fails
+        (quiet _ _ (leaves (waiting (onCondition q))) _ (omega (arith, c .sane h .heldPlace)) (c .sane h .heldSteps) (omega arith) refl)
 
     -- some or all of a condition's queue go behind the holder, however many, whatever the outcome
     wakes-some : (q : ℕ) (ws : List ℕ) (o : ℕ) → ((w : ℕ) → occurs w ws ≤ occurs w (queueOf s (onCondition q)))
@@ -161,25 +155,19 @@ module _ (plan : Plan) (s : State) (h : ℕ) (c : Core plan s) (l : Listed plan 
     broadcasts q = wakes-some q _ _ (λ w. le-refl (occurs w (queueOf s (onCondition q))))
 
     meets : (b : ℕ) (size : ℕ) → Lawful plan s h (barrierRule b size (queueOf s (atBarrier b)) (workerAt s h .held))
-    meets b size = go (not (eqb (workerAt s h .held) 0)) (ltb (length (queueOf s (atBarrier b))) (size - 1))
-      where
-        k : ℕ
-        k = workerAt s h .held
-
-        go : (n t : Bool) → Lawful plan s h (cond n (failure k)
-            (cond t (ruling committed k (leaves (waiting (atBarrier b))) [] [] 0) (ruling committed k gives [] (queueOf s (atBarrier b)) size)))
-        go true t = fails
-        go false true = quiet _ _ (leaves (waiting (atBarrier b))) _ (omega (arith, c .sane h .heldPlace)) (c .sane h .heldSteps) (omega arith) refl
-        go false false =
-            record {
-              out = λ w. omega (arith, queue-counts s (atBarrier b) w);
-              woken = λ w z. absurd (omega (arith, occurs-empty w));
-              joined = λ w z. queue-arrived plan s (atBarrier b) w c z;
-              heldPlace = omega (arith, c .sane h .heldPlace);
-              heldSteps = c .sane h .heldSteps;
-              within = omega arith;
-              leaving = tt;
-            }
+    meets b size =
+        by-test (not (eqb (workerAt s h .held) 0)) _ _ fails
+        (by-test (ltb (length (queueOf s (atBarrier b))) (size - 1)) _ _
+        (quiet _ _ (leaves (waiting (atBarrier b))) _ (omega (arith, c .sane h .heldPlace)) (c .sane h .heldSteps) (omega arith) refl)
+        record {
+          out = λ w. omega (arith, queue-counts s (atBarrier b) w);
+          woken = λ w z. absurd (omega (arith, occurs-empty w));
+          joined = λ w z. queue-arrived plan s (atBarrier b) w c z;
+          heldPlace = omega (arith, c .sane h .heldPlace);
+          heldSteps = c .sane h .heldSteps;
+          within = omega arith;
+          leaving = tt;
+        })
 
     starts : (v : ℕ) → Lawful plan s h (startRule v (fateIn s v) (workerAt s h .held))
     starts v =

@@ -18,7 +18,7 @@ use Rattle.rules.specs.declared.lists.Lists.{Lists}
 use Rattle.rules.specs.declared.ruling.Uncommitted.the-variants.{Committed}
 use Rattle.rules.specs.Codes.{conditionCode}
 use Rattle.rules.specs.Rules.{found}
-use Rattle.rules.specs.Waking.{AllWoken, Broadcasting}
+use Rattle.rules.specs.Waking.{AllWoken, HolderLists}
 use Rattle.rules.specs.Deciding.{CarriedOut}
 use Rattle.rules.proofs.Freed.{settled}
 
@@ -44,7 +44,7 @@ queuedOn lists fates condition = found fates (listOf (lists .waiting)) (conditio
 abbrev going : ℕ → List ℕ → rounds.Goes → rounds.Ruling
 going held queued goes = rounds.ruling rounds.committed held goes queued [] (length queued)
 
-module _ {lists : Lists} {fates : List ℕ} (condition : ℕ) {h : ℕ} (b : Broadcasting h lists fates) {r : Roused} {fates′ : List ℕ}
+module _ {lists : Lists} {fates : List ℕ} (condition : ℕ) {h : ℕ} (b : HolderLists h lists fates) {r : Roused} {fates′ : List ℕ}
     (all : AllWoken (lists .waiting) fates (conditionCode condition) r fates′) {rest behind : Queue} (tail : Holds rest (drop 1 (listOf (lists .list))))
     (put : Holds behind (listOf (r .woken) ++ listOf rest)) {outcome : ℕ} (counted : outcome ≡ length (listOf (r .woken))) where
   -- the woken stand in front of the others

@@ -12,12 +12,12 @@ use Rattle.rules.specs.Codes.{uncommittedOf}
 use Rattle.rules.specs.Rules.{calledBy, Asking, RuledBy}
 use Rattle.rules.specs.Moves.{ListsMoved}
 use Rattle.rules.specs.Fates.{FatesSettled}
-use Rattle.rules.specs.Waking.{Broadcasting}
+use Rattle.rules.specs.Waking.{HolderLists}
 
 -- a synchronising step, and lists with room
 pub record Deciding (op number h held : ℕ) (lists : Lists) (fates : List ℕ) : Type 0 where
   pub asked : Asking op number held (lists .waiting) fates
-  pub holding : Broadcasting h lists fates
+  pub holding : HolderLists h lists fates
   -- a sleeper that the step starts is in none of the lists
   pub total :
       length (listOf (lists .list)) + length (listOf (lists .next)) + length (listOf (lists .waiting)) + calledBy op number fates ≤ workersLimit

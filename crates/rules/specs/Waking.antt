@@ -1,4 +1,4 @@
--- What a broadcast takes, and what waking all who wait on its condition ensures.
+-- What the holder's step finds of the lists, and what waking all who wait on a condition ensures.
 use Prim.Native.Nat.{ℕ, _+_, _≤_, _<_}
 use mathlib.Core.Path.{_≡_}
 use mathlib.Core.List.{List}
@@ -25,7 +25,7 @@ pub record AllWoken (waiting : Queue) (fates : List ℕ) (code : ℕ) (r : Rouse
   pub going : fates′ ≡ setAll 0 (found fates (listOf waiting) code) fates
 
 -- the holder's lists, with at most eight workers between them
-pub record Broadcasting (h : ℕ) (lists : Lists) (fates : List ℕ) : Type 0 where
+pub record HolderLists (h : ℕ) (lists : Lists) (fates : List ℕ) : Type 0 where
   pub holder : h < workersLimit
   pub list : Good (lists .list)
   pub next : Good (lists .next)

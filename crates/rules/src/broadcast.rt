@@ -13,7 +13,7 @@ ghost use Rattle.protocol.specs.Rounds.{broadcastRule};
 ghost use Rattle.queue.specs.List.{listOf};
 ghost use Rattle.rules.specs.Codes.{conditionCode};
 ghost use Rattle.rules.specs.Rules.{found};
-ghost use Rattle.rules.specs.Waking.{Rousing, Broadcasting, AllWoken};
+ghost use Rattle.rules.specs.Waking.{Rousing, HolderLists, AllWoken};
 ghost use Rattle.rules.specs.Deciding.{CarriedOut};
 
 // Of those who wait: those who are woken, and those who wait on.
@@ -52,7 +52,7 @@ pub fn broadcast(
     lists: Lists,
     fates: &mut [u64; WORKERS_LIMIT],
 ) -> Decision
-    requires { ⌜ (condition ≤ lockLimit) × Broadcasting h lists (now fates) ⌝ }
+    requires { ⌜ (condition ≤ lockLimit) × HolderLists h lists (now fates) ⌝ }
     ensures { λ d. ⌜ CarriedOut lists (now (fates .entry)) (broadcastRule (found (now (fates .entry)) (listOf (lists .waiting)) (conditionCode condition)) held) h d (now (fates .exit)) ⌝ }
 {
     let list = lists.list;

@@ -27,8 +27,8 @@ raise-requires c κs =
 count-requires : tie.Need-count-requires
 count-requires c κs = search needs
 
-memory-sum-requires : tie.Need-memory-sum-requires
-memory-sum-requires c κs = search needs
+whole-sum-requires : tie.Need-whole-sum-requires
+whole-sum-requires c κs = search needs
 
 returns : tie.Need-returns
 returns c =
@@ -43,10 +43,10 @@ returns c =
       moves = refl;
       rounds = refl;
       records = refl;
-      sum = c .memory-sum .ensures;
+      sum = c .whole-sum .ensures;
       marks = r .raise .ensures ∙ ap (λ (ws : List ℕ). raised ws (r .before .before .before .before .before .before .args .can .now)) (h .list);
     }
 
 pub first-round-spec : {M : Type 1} → statement M
 first-round-spec =
-    tie.close (tie.spec among-requires empty-requires empty-requires-2 raise-requires count-requires memory-sum-requires returns)
+    tie.close (tie.spec among-requires empty-requires empty-requires-2 raise-requires count-requires whole-sum-requires returns)

@@ -64,7 +64,7 @@ returns c =
     let rested = counted .before .before in
     let s = from-rouse (from-rest rested) in
     gives-up (s .args .condition) (s .pre .1) (asked-by (s .args .condition) (omega arith) (from-rest rested .rouse .ensures)) (rested .rest .ensures)
-    (counted .before .append .ensures) (omega (arith, counted .count .ensures)) (c .before .if1 .taken) (c .push .ensures)
+    (counted .before .append .ensures) (omega (arith, counted .count .ensures)) (omega (arith, c .before .if1 .taken)) (c .push .ensures)
 
 cons-requires : tie.Need-cons-requires
 cons-requires c κs =
@@ -86,7 +86,7 @@ returns-2 c =
     let rested = counted .before .before in
     let s = from-rouse (from-rest rested) in
     runs-on (s .args .condition) (s .pre .1) (asked-by (s .args .condition) (omega arith) (from-rest rested .rouse .ensures)) (rested .rest .ensures)
-    (counted .before .append .ensures) (omega (arith, counted .count .ensures)) (c .before .if1 .left) (c .cons .ensures)
+    (counted .before .append .ensures) (omega (arith, counted .count .ensures)) (λ e. omega (arith, e, c .before .if1 .left)) (c .cons .ensures)
 
 pub broadcast-spec : {M : Type 1} → statement M
 broadcast-spec =

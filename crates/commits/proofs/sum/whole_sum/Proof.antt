@@ -1,4 +1,4 @@
--- `memory_sum`: the sum of the words before the block at hand, which does not wrap.
+-- `whole_sum`: the sum of the words before the block at hand, which does not wrap.
 use Prim.Native.Nat.{ℕ, _+_, _-_, _*_, _/_, _%_, _≤_}
 use native.Mathlib.Omega.{arith}
 use mathlib.Core.Path.{_≡_, sym, ap, _∙_}
@@ -6,8 +6,8 @@ use borrow.Author.Needs.{needs}
 use Rattle.protocol.specs.Calls.{memoryLength}
 use Rattle.commits.specs.Blocks.{blockSize, blockWords, wordsFrom}
 use Rattle.commits.proofs.Words.{words-none, words-parted, words-all}
-use Rattle.commits.proofs.sum.memory_sum.Statement.{statement}
-use Rattle.commits.proofs.sum.memory_sum.Tie as tie
+use Rattle.commits.proofs.sum.whole_sum.Statement.{statement}
+use Rattle.commits.proofs.sum.whole_sum.Tie as tie
 
 abbrev Inv-loop : tie.InvT-loop
 Inv-loop memory sum₀ at₀ sum at =
@@ -50,8 +50,8 @@ returns c =
     let all : l .loop .at / 2 ≡ 1024 = omega arith in
     l .loop .inv .3 ∙ ap (λ (k : ℕ). wordsFrom memory 0 k) all ∙ sym (words-all 1024 memory (l .before .before .pre))
 
-pub memory-sum-spec : {M : Type 1} → statement M
-memory-sum-spec =
+pub whole-sum-spec : {M : Type 1} → statement M
+whole-sum-spec =
     tie.close
     (tie.spec
     Inv-loop
