@@ -75,14 +75,14 @@ commit-none memory = commit-is noCopies memory memory refl (λ j h.
 
 -- ---- a worker without copies
 
--- none of the first k pages is copied
-pub none-copied : (marks : List Bool) (w k : ℕ) → anyCopied marks w k ≡ false → (p : ℕ) → p < k → getD marks (slotOf w p) false ≡ false
+-- none of k pages is copied
+pub none-copied : (marks : List Bool) (w from k : ℕ) → anyCopied marks w from k ≡ false → (p : ℕ) → p < k → getD marks (slotOf w (from + p)) false ≡ false
 unfolding anyCopied
-none-copied marks w zero e p h = absurd (omega arith)
-none-copied marks w (suc k) e p h =
+none-copied marks w from zero e p h = absurd (omega arith)
+none-copied marks w from (suc k) e p h =
     elim (ℕ-discrete p k) [
-      | yes same ↦ ap (λ (q : ℕ). getD marks (slotOf w q) false) same ∙ or-right (anyCopied marks w k) e
-      | no other ↦ none-copied marks w k (or-left (anyCopied marks w k) _ e) p (omega arith)
+      | yes same ↦ ap (λ (q : ℕ). getD marks (slotOf w (from + q)) false) same ∙ or-right (anyCopied marks w from k) e
+      | no other ↦ none-copied marks w from k (or-left (anyCopied marks w from k) _ e) p (omega arith)
     ]
 
 -- ---- one page alone
@@ -173,3 +173,14 @@ module _ (copies : Copies) (memory : List ℕ) (p : ℕ) (h : p < pageCount) whe
       ∙ ap (λ (k : Copy). commit (set noCopies p k) m) (sym e)
       ∙ ap (λ (l : List ℕ). commit (set noCopies p (copyOf copies p)) l) f
       ∙ page-more
+
+-- pages of which there are no copies
+pub pages-none : (copies : Copies) (start m : List ℕ) (from k : ℕ) → from + k ≤ pageCount → ((p : ℕ) → p < k → copyOf copies (from + p) ≡ absent)
+    → m ≡ commit (take from copies) start → m ≡ commit (take (from + k) copies) start
+pages-none copies start m from zero h none e = let same : from ≡ from + 0 = omega arith in e ∙ ap (λ (n : ℕ). commit (take n copies) start) same
+pages-none copies start m from (suc k) h none e =
+    let next : from + k + 1 ≡ from + suc k = omega arith in
+    pages-more copies start (from + k) (omega arith) absent m m (none k (omega arith))
+    (pages-none copies start m from k (omega arith) (λ p b. none p (omega arith)) e)
+    (commit-unused (from + k) (omega arith) m absent refl)
+    ∙ ap (λ (n : ℕ). commit (take n copies) start) next

@@ -15,7 +15,9 @@ ghost use Rattle.protocol.specs.Pages.{pageSize, pageCount, noCopies, commit};
 ghost use Rattle.protocol.specs.Sum.{sumOf};
 ghost use Rattle.pages.specs.Copies.{Lent, slotCount, slotCopy, copiesIn};
 ghost use Rattle.commits.specs.Blocks.{blockSize, anyDiffers, BytesWritten, BlockLent, BlockMoved, Summed};
-ghost use Rattle.commits.specs.Committing.{anyCopied, Committed};
+ghost use Rattle.commits.specs.Committing.{halfCount, anyCopied, PagesDone, Committed};
+
+const HALF_COUNT: usize = Page::COUNT / 2;
 
 // Whether a byte of a block of a working copy differs from its twin. Each is looked at, so that the loop becomes vector code.
 fn differs(work: &[u8], at: usize) -> bool
@@ -90,44 +92,58 @@ fn commit_page(
     total
 }
 
-fn commit_pages(memory: &mut [u8], work: &[u8], copied: &[bool; SLOTS], w: usize, sum: u32) -> u32
-    requires { ⌜ Lent (now memory) (now work) × (w < workersLimit) × Summed (now memory) sum ⌝ }
-    ensures { λ r. ⌜ (now (memory .exit) ≡ commit (copiesIn (now (copied .entry)) (now (work .entry)) w) (now (memory .entry)))
-        × Summed (now (memory .exit)) r ⌝ }
-{
-    let mut total = sum;
-    let mut p = 0;
-    while p < Page::COUNT {
-        total = commit_page(memory, work, copied, p, Page::COUNT * w + p, total);
-        p += 1;
-    }
-    total
-}
-
-// Whether a worker has a copy of any page. Each mark is read, so that all are read at once.
-fn any_copy(copied: &[bool; SLOTS], w: usize) -> bool
-    requires { ⌜ w < workersLimit ⌝ }
-    ensures { λ r. ⌜ r ≡ anyCopied (now (copied .entry)) w pageCount ⌝ }
+// Whether a worker has a copy of one of so many pages, from a page on. Each mark is read, so that all are read at once.
+fn any_copy(copied: &[bool; SLOTS], w: usize, from: usize, count: usize) -> bool
+    requires { ⌜ (w < workersLimit) × (from + count ≤ pageCount) ⌝ }
+    ensures { λ r. ⌜ r ≡ anyCopied (now (copied .entry)) w from count ⌝ }
 {
     let mut any = false;
-    let mut p = 0;
-    while p < Page::COUNT {
-        any = any | copied[Page::COUNT * w + p];
-        p += 1;
+    let mut k = 0;
+    while k < count {
+        any = any | copied[Page::COUNT * w + from + k];
+        k += 1;
     }
     any
 }
 
+// Goes on with a commit that has done the pages before `from`, by half of all pages.
+fn commit_pages(
+    memory: &mut [u8],
+    work: &[u8],
+    copied: &[bool; SLOTS],
+    w: usize,
+    from: usize,
+    sum: u32,
+) -> u32
+    requires { ⌜ Lent (now memory) (now work) × (w < workersLimit) × (from + halfCount ≤ pageCount) × Summed (now memory) sum ⌝ }
+    ensures { λ r. ⌜ PagesDone (copiesIn (now (copied .entry)) (now (work .entry)) w) from (from + halfCount) (now (memory .entry)) (now (memory .exit))
+        × Summed (now (memory .exit)) r ⌝ }
+{
+    if !any_copy(copied, w, from, HALF_COUNT) {
+        return sum;
+    }
+    let mut total = sum;
+    let mut k = 0;
+    while k < HALF_COUNT {
+        let p = from + k;
+        total = commit_page(memory, work, copied, p, Page::COUNT * w + p, total);
+        k += 1;
+    }
+    total
+}
+
 // A worker's commit: shared memory gets what it changed, and its copies are dropped. The sum of shared memory's words goes in, and comes
-// back moved by as much.
+// back moved by as much. The pages are done in two calls: a function that is called twice stays apart from the steps that commit nothing,
+// which are faster for it.
 pub fn commit(memory: &mut [u8], work: &[u8], copied: &mut [bool; SLOTS], w: usize, sum: u32) -> u32
     requires { ⌜ Lent (now memory) (now work) × (w < workersLimit) × (sum ≡ sumOf (now memory)) ⌝ }
     ensures { λ r. ⌜ Committed w sum (now (copied .entry)) (now (work .entry)) (now (memory .entry)) r (now (copied .exit)) (now (memory .exit)) ⌝ }
 {
-    if !any_copy(copied, w) {
+    if !any_copy(copied, w, 0, Page::COUNT) {
         return sum;
     }
-    let moved = commit_pages(memory, work, copied, w, sum);
+    let half = commit_pages(memory, work, copied, w, 0, sum);
+    let moved = commit_pages(memory, work, copied, w, HALF_COUNT, half);
     discard(copied, w);
     moved
 }

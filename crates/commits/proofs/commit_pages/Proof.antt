@@ -1,27 +1,56 @@
--- `commit_pages`: after p turns, what a commit of the first p copies leaves, and its sum.
-use Prim.Native.Nat.{_-_, _<_, _≤_}
+-- `commit_pages`: after k turns the commit has done k pages more, and the sum is that of memory as it stands.
+use Prim.Native.Nat.{ℕ, _+_, _-_, _<_, _≤_}
 use native.Mathlib.Omega.{arith}
-use mathlib.Core.Path.{_≡_, refl, ap, _∙_}
+use mathlib.Core.Path.{_≡_, refl, sym, ap, _∙_, subst}
 use lib.ListN.{length, take}
-use lib.Seq.{take-all}
 use borrow.Author.Needs.{needs}
-use Rattle.protocol.specs.Pages.{pageCount, Copies, commit}
+use borrow.Author.Tests.{not-true}
+use Rattle.protocol.specs.Pages.{pageCount, commit}
+use Rattle.pages.specs.Copies.{slotOf, copyIn, copiesIn}
+use Rattle.pages.proofs.Slots.{copies-at, not-in-use}
 use Rattle.commits.specs.Blocks.{Summed}
-use Rattle.pages.specs.Copies.{copyIn, copiesIn}
-use Rattle.pages.proofs.Slots.{length-copies, copies-at}
-use Rattle.commits.proofs.Commits.{commit-nothing, pages-more}
+use Rattle.commits.specs.Committing.{halfCount, PagesDone}
+use Rattle.commits.proofs.Commits.{none-copied, pages-more, pages-none}
 use Rattle.commits.proofs.commit_pages.Statement.{statement}
 use Rattle.commits.proofs.commit_pages.Tie as tie
 
 abbrev Inv-loop : tie.InvT-loop
-Inv-loop memory₀ work copied w sum total₀ p₀ memory total p =
-    (p ≤ pageCount) × (length memory ≡ length memory₀) × (memory ≡ commit (take p (copiesIn copied work w)) memory₀) × Summed memory total
+Inv-loop memory₀ work copied w from sum total₀ k₀ memory total k =
+    (k ≤ halfCount) × (length memory ≡ length memory₀) × PagesDone (copiesIn copied work w) from (from + k) memory₀ memory × Summed memory total
 
 abbrev μ-loop : tie.MeasureT-loop
-μ-loop memory₀ work copied w sum total₀ p₀ memory total p = pageCount - p
+μ-loop memory₀ work copied w from sum total₀ k₀ memory total k = halfCount - k
+
+any-copy-requires : tie.Need-any-copy-requires Inv-loop μ-loop
+any-copy-requires c κs = search needs
+
+returns : tie.Need-returns Inv-loop μ-loop
+returns c =
+    let asked = c .before in
+    let start = asked .before .before .before in
+    let a = start .args in
+    let off = none-copied (a .copied .now) (a .w) (a .from) halfCount (sym (asked .any-copy .ensures) ∙ not-true (asked .any-copy .result) (c .if1 .taken)) in (
+      λ first e. pages-none (copiesIn (a .copied .now) (a .work .now) (a .w)) first (a .memory .now) (a .from) halfCount (search needs)
+          (λ p h.
+          copies-at (a .copied .now) (a .work .now) (a .w) (a .from + p) (omega (arith, start .pre))
+          ∙ not-in-use (a .copied .now) (a .work .now) (slotOf (a .w) (a .from + p)) (off p h))
+          e,
+      search needs,
+    )
 
 loop-holds : tie.Need-loop-holds Inv-loop μ-loop
-loop-holds c = (search needs, refl, commit-nothing (c .before .before .args .memory .now), search needs)
+loop-holds c =
+    let start = c .before .before .before .before in
+    let a = start .args in
+    let none : a .from ≡ a .from + 0 = omega arith in (
+      search needs,
+      refl,
+      λ first e. e ∙ ap (λ (n : ℕ). commit (take n (copiesIn (a .copied .now) (a .work .now) (a .w))) first) none,
+      search needs,
+    )
+
+add-p : tie.Need-add-p Inv-loop μ-loop
+add-p c = search needs
 
 mul-commit-page : tie.Need-mul-commit-page Inv-loop μ-loop
 mul-commit-page c = search needs
@@ -32,8 +61,8 @@ add-commit-page c = search needs
 commit-page-requires : tie.Need-commit-page-requires Inv-loop μ-loop
 commit-page-requires c κs = search needs
 
-add-p : tie.Need-add-p Inv-loop μ-loop
-add-p c = search needs
+add-k : tie.Need-add-k Inv-loop μ-loop
+add-k c = search needs
 
 loop-less : tie.Need-loop-less Inv-loop μ-loop
 loop-less c = search needs
@@ -42,27 +71,31 @@ loop-again : tie.Need-loop-again Inv-loop μ-loop
 loop-again c =
     let called = c .before .before in
     let l = called .before .before .before in
-    let a = l .before .before .before .args in
-    let p = l .loop .p in
-    let h : p < pageCount = called .before .before .loop-test .taken in (
+    let start = l .before .before .before .before .before in
+    let a = start .args in
+    let copies = copiesIn (a .copied .now) (a .work .now) (a .w) in
+    let p = a .from + l .loop .k in
+    let h : p < pageCount = omega (arith, start .pre, called .before .before .loop-test .taken) in
+    let next : p + 1 ≡ a .from + (l .loop .k + 1) = omega arith in (
       search needs,
       search needs,
-      pages-more (copiesIn (a .copied .now) (a .work .now) (a .w)) (a .memory .now) p h
-          (copyIn (a .copied .now) (a .work .now) (a .w) p) (l .loop .memory) (called .commit-page .last .0)
-          (copies-at (a .copied .now) (a .work .now) (a .w) p h) (l .loop .inv .2) (called .commit-page .ensures .0),
+      λ first e. pages-more copies first p h (copyIn (a .copied .now) (a .work .now) (a .w) p) (l .loop .memory) (called .commit-page .last .0)
+          (copies-at (a .copied .now) (a .work .now) (a .w) p h) (l .loop .inv .2 first e) (called .commit-page .ensures .0)
+          ∙ ap (λ (n : ℕ). commit (take n copies) first) next,
       called .commit-page .ensures .1,
     )
 
 same-length : tie.Need-same-length Inv-loop μ-loop
 same-length c = search needs
 
-returns : tie.Need-returns Inv-loop μ-loop
-returns c =
+returns-2 : tie.Need-returns-2 Inv-loop μ-loop
+returns-2 c =
     let l = c .before in
-    let a = l .before .before .before .args in
-    let copies = copiesIn (a .copied .now) (a .work .now) (a .w) in
-    let all : length copies ≤ l .loop .p = omega (arith, length-copies (a .copied .now) (a .work .now) (a .w)) in
-    (l .loop .inv .2 ∙ ap (λ (k : Copies). commit k (a .memory .now)) (take-all (l .loop .p) copies all), l .loop .inv .3)
+    let a = l .before .before .before .before .before .args in
+    let all : l .loop .k ≡ halfCount = omega arith in (
+      subst (λ (n : ℕ). PagesDone (copiesIn (a .copied .now) (a .work .now) (a .w)) (a .from) (a .from + n) (a .memory .now) (l .loop .memory)) all (l .loop .inv .2),
+      l .loop .inv .3,
+    )
 
 pub commit-pages-spec : {M : Type 1} → statement M
 commit-pages-spec =
@@ -70,12 +103,15 @@ commit-pages-spec =
     (tie.spec
     Inv-loop
     μ-loop
+    any-copy-requires
+    returns
     loop-holds
+    add-p
     mul-commit-page
     add-commit-page
     commit-page-requires
-    add-p
+    add-k
     loop-less
     loop-again
     same-length
-    returns)
+    returns-2)
