@@ -1,7 +1,7 @@
 # make         the library, the header check, the C test programs
 # make test    the gate, .ci/run: all proofs from nothing, then every test
 # make tests   every test, on what is proved already; test-NAME is one of them (TESTS below)
-# make soak, make mutants, make fuzz, make bench, make bench-instructions, make controls, make broken  what takes longer; see the end of this file
+# make soak, make mutants, make fuzz, make bench, make bench-placed, make bench-instructions, make controls, make broken  what takes longer; see the end of this file
 # make clean   removes all that is built
 #
 # What is proved and the C tests stand under target/, which `rt ci` removes too; the measuring program under build/, and what cargo
@@ -221,3 +221,9 @@ bench: build/bench
 .PHONY: bench-instructions
 bench-instructions: build/bench
 	bench/instructions.sh build/bench build/instructions.csv
+
+# the same times with the code put elsewhere, four times
+.PHONY: bench-placed
+bench-placed: $(LIB)
+	mkdir -p build
+	bench/placed.sh $(LIB) 25 build/placed.csv
