@@ -12,7 +12,7 @@
  *   - Every input of these types is answered. A wrong length or wrong content is refused by number, never a fault.
  *   - A refusal changes no byte of any buffer.
  *   - A call uses less than TAMPERMAUVE_STACK_LIMIT bytes of the caller's stack (`make test-stack` measures it: some 630 for a
- *     check and 1,600 for a run).
+ *     check and 1,400 for a run).
  */
 #ifndef TAMPERMAUVE_H
 #define TAMPERMAUVE_H
