@@ -226,4 +226,4 @@ bench-instructions: build/bench
 .PHONY: bench-placed
 bench-placed: $(LIB)
 	mkdir -p build
-	bench/placed.sh $(LIB) 25 build/placed.csv
+	bench/placed.sh $(LIB) 25 build/placed.csv build/placed.svg

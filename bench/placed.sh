@@ -3,10 +3,10 @@
 # times, both engines' code 16 bytes further each time, measures each of them,
 # and prints the least, the middle and the greatest ratio of every set.
 #
-# bench/placed.sh LIBRARY [PASSES [CSV]]
+# bench/placed.sh LIBRARY [PASSES [CSV [SVG]]]    the picture is of the second placement
 set -eu
 cd "$(dirname "$0")/.."
-library=$1 passes=${2:-25} csv=${3:-/dev/null}
+library=$1 passes=${2:-25} csv=${3:-/dev/null} svg=${4:-/dev/null}
 work=$(mktemp -d)
 trap 'rm -rf "$work"' EXIT
 cc="${CC:-gcc} -std=c99 -O3 -Wall -Wextra -Werror -pedantic -Iinclude"
@@ -18,9 +18,11 @@ for shift in 16 32 48 64; do
     printf '.text\n.skip %d\n.section .note.GNU-stack,"",@progbits\n' "$shift" > "$work/shift.s"
     ${CC:-gcc} -c "$work/shift.s" -o "$work/shift.o"
     $cc "$work/bench.o" "$work/sets.o" "$work/shift.o" "$work/twin.o" "$library" -lm -o "$work/bench"
-    "$work/bench" --passes "$passes" --csv "$work/$shift.csv" > "$work/said"
+    "$work/bench" --passes "$passes" --csv "$work/$shift.csv" --svg "$work/$shift.svg" > "$work/said"
     tail -n 1 "$work/said" | sed "s/^/shifted by $shift: /"
 done
+
+cat "$work/32.svg" > "$svg"
 
 # a line for each set and shift: the ratio, then the name
 tail -q -n +2 "$work"/*.csv | sed 's/^"\(.*\)",[^,]*,[^,]*,[^,]*,\([^,]*\),.*/\2 \1/' > "$work/ratios"
