@@ -96,11 +96,11 @@ cleared l at h =
     whole : length (take (length l - at) (drop at l)) ≡ length l - at
     whole = length-take-le (length l - at) (drop at l) (let e = length-drop at l in omega arith)
 
--- the sum's four bytes
-pub packs-sum : (n : ℕ) → bytesOf sumLength n ≡ fourBytes n
-packs-sum n =
-    let third : n / 256 / 256 ≡ n / 65536 = omega arith in
-    rw third
+-- the sum's four bytes, however the code writes the number
+pub packs-sum : (n sum : ℕ) → n ≡ sum → bytesOf sumLength n ≡ fourBytes sum
+packs-sum n sum e =
+    let third : sum / 256 / 256 ≡ sum / 65536 = omega arith in
+    rw (e, third)
 
 -- twenty bytes written anew: eight, eight and four
 pub parts : (l : List ℕ) {m k r a b c : List ℕ} (x y z : ℕ) → length l ≡ reportLength

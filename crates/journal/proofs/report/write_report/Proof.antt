@@ -1,4 +1,5 @@
 -- `write_report`: twenty bytes: eight, eight and four.
+use native.Mathlib.Omega.{arith}
 use borrow.Author.Needs.{needs}
 use Rattle.journal.specs.Bytes.{reportOf}
 use Rattle.journal.proofs.Packing.{packs-sum, parts}
@@ -41,7 +42,7 @@ returns c =
     let fates = first .before .before in
     let start = fates .before .before .before .before .before .before in
     parts (start .args .report .now) _ _ _ (start .pre .1) (first .put .ensures) (second .put2 .ensures) (third .put3 .ensures)
-    (fates .before .packed-tallies .ensures) (fates .packed-fates .ensures) (packs-sum (start .args .sum))
+    (fates .before .packed-tallies .ensures) (fates .packed-fates .ensures) (packs-sum _ (start .args .sum) (omega arith))
 
 pub write-report-spec : {M : Type 1} → statement M
 write-report-spec =
