@@ -134,7 +134,7 @@ fn commit_pages(
 
 // A worker's commit: shared memory gets what it changed, and its copies are dropped. The sum of shared memory's words goes in, and comes
 // back moved by as much. The pages are done in two calls: a function that is called twice stays apart from the steps that commit nothing,
-// which are faster for it.
+// which take fewer instructions for it.
 pub fn commit(memory: &mut [u8], work: &[u8], copied: &mut [bool; SLOTS], w: usize, sum: u32) -> u32
     requires { ⌜ Lent (now memory) (now work) × (w < workersLimit) × (sum ≡ sumOf (now memory)) ⌝ }
     ensures { λ r. ⌜ Committed w sum (now (copied .entry)) (now (work .entry)) (now (memory .entry)) r (now (copied .exit)) (now (memory .exit)) ⌝ }
