@@ -34,7 +34,6 @@ pub record Closing (c : Counts) (n : ℕ) (log report : List ℕ) : Type 0 where
   pub size : length report ≡ reportLength
 
 -- what it leaves
-pub record Closed (list : List ℕ) (c : Counts) (fates : List ℕ) (n sum : ℕ) (log log′ report′ work work′ : List ℕ) : Type 0 where
+pub record Closed (list : List ℕ) (c : Counts) (fates : List ℕ) (n sum : ℕ) (log log′ report′ : List ℕ) : Type 0 where
   pub logged : log′ ≡ take (entryLength * c .records) log ++ replicate (length log - entryLength * c .records) 0
   pub reported : report′ ≡ reportOf (endBy list fates n) n c fates sum
-  pub cleared : work′ ≡ replicate (length work) 0

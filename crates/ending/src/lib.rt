@@ -45,7 +45,7 @@ fn end_of(list: Queue, fates: &[u64; WORKERS_LIMIT], workers: u8) -> u8
     ends::STUCK
 }
 
-// The log's rest and work are cleared, and the report is written.
+// The log's rest is cleared, and the report is written.
 pub fn close_buffers(
     list: Queue,
     c: Counts,
@@ -54,13 +54,11 @@ pub fn close_buffers(
     sum: u32,
     log: &mut [u8],
     report: &mut [u8],
-    work: &mut [u8],
 )
     requires { ⌜ Closing c workers (now log) (now report) ⌝ }
-    ensures { λ _. ⌜ Closed (listOf list) c (now (fates .entry)) workers sum (now (log .entry)) (now (log .exit)) (now (report .exit)) (now (work .entry)) (now (work .exit)) ⌝ }
+    ensures { λ _. ⌜ Closed (listOf list) c (now (fates .entry)) workers sum (now (log .entry)) (now (log .exit)) (now (report .exit)) ⌝ }
 {
     let end = end_of(list, fates, workers);
     clear_behind(log, c.records);
-    words::clear(work);
     write_report(report, end, workers, c, fates, sum);
 }

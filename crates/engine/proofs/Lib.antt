@@ -9,14 +9,6 @@ pub mod Here
 -- An own step simulates its move.
 pub mod OwnSimulates
 -- An arrival simulates its move.
--- The holder's step simulates its move, from what its parts leave.
--- The parts of the holder's step: what they ask, and that the decision is the definitions' rule.
--- What becomes of the holder's bytes, by the ruling's case.
--- The values at first refine the start of round 1.
--- A list of turns, one after another.
--- Turns that pass or make an own step.
--- The turns of a run: those up to one that synchronises, that one, and so on.
--- An arrival simulates its move.
 pub mod ArriveSimulates
 -- The holder's step simulates its move, from what its parts leave.
 pub mod HoldSimulates
@@ -26,9 +18,11 @@ pub mod Holder
 pub mod Settling
 -- The values at first refine the start of round 1.
 pub mod StartRefines
--- A list of turns, one after another.
+-- Turns, one after another.
 pub mod Playing
+-- The moves that are counted rise.
+pub mod Rising
 -- Turns that pass or make an own step.
 pub mod OwnTurns
--- The turns of a run: those up to one that synchronises, that one, and so on.
+-- The turns of a run: those up to one that synchronises, that one, and so on; and which turn is next.
 pub mod Played

@@ -1,25 +1,21 @@
--- A list of turns, one after another.
+-- Turns, one after another.
 use Prim.Native.Nat.{ℕ, _+_, _<_, _≤_}
-use native.Mathlib.Numerals.{add-one}
 use native.Mathlib.Decide.{decLt}
 use native.Mathlib.Omega.{arith}
 use mathlib.Core.Bool.{Bool, true, false, cond}
 use mathlib.Core.Path.{_≡_, refl, sym, ap, _∙_, subst⁻¹}
-use mathlib.Core.List.{List, [], _∷_}
-use lib.Dec.{leb, eqb}
-use lib.ListN.{length, getD, take}
-use lib.Seq.{take-suc}
-use borrow.Author.Tests.{leb-false}
+use mathlib.Core.List.{List, [], _∷_, _++_}
+use lib.Dec.{eqb}
+use lib.ListN.{getD}
 use Rattle.protocol.specs.Format.{workersLimit, Plan, upTo, planOf}
 use Rattle.protocol.specs.Rounds.{State, member}
-use Rattle.protocol.specs.Turns.{workersOf, can, move, turn, play}
-use Rattle.protocol.specs.Calls.{namesNobody, playedFrom}
+use Rattle.protocol.specs.Turns.{workersOf, start, can, move, turn, play}
+use Rattle.protocol.specs.Calls.{playedFrom}
 use Rattle.protocol.proofs.Accepted.{sound-file}
 use Rattle.protocol.proofs.Obeys.{play-inv, play-append}
 use Rattle.protocol.proofs.Counting.{member-some, occurs-above}
 use Rattle.protocol.proofs.Laws.{start-inv}
 use Rattle.protocol.proofs.Sound.{Sound}
-use Rattle.protocol.proofs.Covered.{any-none}
 use Rattle.format.specs.Fates.{codeGoing}
 use Rattle.queue.specs.List.{Below}
 use Rattle.rules.proofs.Moving.{below-keep}
@@ -30,32 +26,10 @@ use Rattle.engine.specs.Moving.{Able}
 use Rattle.engine.specs.Turning.{Named, awake}
 use Rattle.engine.proofs.Facts as facts
 
--- the state after so many of the turns
-abbrev pub after : Plan → List ℕ → List ℕ → ℕ → State
-after plan memory turns i = playedFrom plan memory (take i turns)
-
-after-one : (plan : Plan) (memory turns : List ℕ) (i : ℕ) → i < length turns
-    → after plan memory turns (i + 1) ≡ turn plan (after plan memory turns i) (getD turns i 0)
+-- one turn more
+one-more : (plan : Plan) (memory played : List ℕ) (w : ℕ) → playedFrom plan memory (played ++ (w ∷ [])) ≡ turn plan (playedFrom plan memory played) w
 unfolding play
-after-one plan memory turns i h = rw (add-one, take-suc turns i 0) (play-append plan _ (take i turns) (getD turns i 0 ∷ []))
-
-pub after-move : (plan : Plan) (memory turns : List ℕ) (i : ℕ) → i < length turns → can (after plan memory turns i) (getD turns i 0) ≡ true
-    → after plan memory turns (i + 1) ≡ move plan (after plan memory turns i) (getD turns i 0)
-unfolding turn
-after-move plan memory turns i h e =
-    after-one plan memory turns i h
-    ∙ ap (λ (b : Bool). cond b (move plan (after plan memory turns i) (getD turns i 0)) (after plan memory turns i)) e
-
-pub after-pass : (plan : Plan) (memory turns : List ℕ) (i : ℕ) → i < length turns → can (after plan memory turns i) (getD turns i 0) ≡ false
-    → after plan memory turns (i + 1) ≡ after plan memory turns i
-unfolding turn
-after-pass plan memory turns i h e =
-    after-one plan memory turns i h
-    ∙ ap (λ (b : Bool). cond b (move plan (after plan memory turns i) (getD turns i 0)) (after plan memory turns i)) e
-
--- where no turn names nobody, each names a worker below n
-pub turn-below : (n : ℕ) (turns : List ℕ) (i : ℕ) → namesNobody n turns ≡ false → i < length turns → getD turns i 0 < n
-turn-below n turns i e h = leb-false n (getD turns i 0) (any-none (λ w. leb n w) turns 0 e i h)
+one-more plan memory played w = play-append plan (start plan memory) played (w ∷ [])
 
 -- the first round's list
 pub up-to-below : {n : ℕ} {workers : List ℕ} → n ≤ workersLimit → workers ≡ upTo n → Below workersLimit workers
@@ -69,37 +43,39 @@ pub awake-below : {n : ℕ} (fates : List ℕ) {workers : List ℕ} → n ≤ wo
 awake-below {n} fates l e =
     subst⁻¹ (λ (ws : List ℕ). Below workersLimit ws) e (below-keep workersLimit (λ w. eqb (getD fates w 0) codeGoing) (upTo n) (up-to-below l refl))
 
--- the turns of an accepted run
+-- the turns of an accepted file
 module _ {file sizes firsts turns : List ℕ} (p : Named file sizes firsts turns) where
   pub plan-sound : Sound (planOf file)
   plan-sound = sound-file file (p .laid .ok)
 
-  pub turn-small : (i : ℕ) → i < length turns → getD turns i 0 < workersLimit
-  turn-small i h = omega (arith, turn-below (workersOf (planOf file)) turns i (p .known) h, plan-sound .workers)
-
-  module _ (start : List ℕ) (i : ℕ) where
+  -- those that were played
+  module _ (start played : List ℕ) where
     abbrev s : State
-    s = after (planOf file) start turns i
+    s = playedFrom (planOf file) start played
 
     pub moves-fit : {t : Schedule} {k : Kept} → Refines (workersOf (planOf file)) s t k → t .counts .moves ≤ 2064
-    moves-fit shows =
-        facts.moves-fit plan-sound (play-inv (planOf file) plan-sound _ (take i turns) (start-inv (planOf file) start plan-sound)) shows
+    moves-fit shows = facts.moves-fit plan-sound (play-inv (planOf file) plan-sound _ played (start-inv (planOf file) start plan-sound)) shows
 
-    module _ (h : i < length turns) {t : Schedule} {k : Kept} (shows : Refines (workersOf (planOf file)) s t k) where
-      pub can-same : {b : Bool} → getD (k .can) (getD turns i 0) false ≡ b → can s (getD turns i 0) ≡ b
-      can-same e = sym (shows .lists .able (getD turns i 0) (turn-small i h)) ∙ e
+    -- the next turn, by worker w
+    module _ (w : ℕ) (small : w < workersLimit) {t : Schedule} {k : Kept} (shows : Refines (workersOf (planOf file)) s t k) where
+      pub can-same : {b : Bool} → getD (k .can) w false ≡ b → can s w ≡ b
+      can-same e = sym (shows .lists .able w small) ∙ e
 
-      -- the turn moves
-      module _ (e : getD (k .can) (getD turns i 0) false ≡ true) where
-        unfoldable pub able-here : Able file sizes firsts (getD turns i 0) t k
-        able-here = record { laid = p .laid; start = start; turns = take i turns; refines = shows; able = can-same e }
+      -- it moves
+      module _ (e : getD (k .can) w false ≡ true) where
+        unfoldable pub able-here : Able file sizes firsts w t k
+        able-here = record { laid = p .laid; start = start; turns = played; refines = shows; able = can-same e }
 
-        pub moved : {t′ : Schedule} {k′ : Kept} → Refines (workersOf (planOf file)) (move (planOf file) s (getD turns i 0)) t′ k′
-            → Refines (workersOf (planOf file)) (after (planOf file) start turns (i + 1)) t′ k′
+        pub moved : {t′ : Schedule} {k′ : Kept} → Refines (workersOf (planOf file)) (move (planOf file) s w) t′ k′
+            → Refines (workersOf (planOf file)) (playedFrom (planOf file) start (played ++ (w ∷ []))) t′ k′
+        unfolding turn
         moved {t′} {k′} x =
-            subst⁻¹ (λ (q : State). Refines (workersOf (planOf file)) q t′ k′) (after-move (planOf file) start turns i h (can-same e)) x
+            subst⁻¹ (λ (q : State). Refines (workersOf (planOf file)) q t′ k′)
+            (one-more (planOf file) start played w ∙ ap (λ (b : Bool). cond b (move (planOf file) s w) s) (can-same e)) x
 
       -- or it passes
-      pub passed : getD (k .can) (getD turns i 0) false ≡ false → Refines (workersOf (planOf file)) (after (planOf file) start turns (i + 1)) t k
+      pub passed : getD (k .can) w false ≡ false → Refines (workersOf (planOf file)) (playedFrom (planOf file) start (played ++ (w ∷ []))) t k
+      unfolding turn
       passed e =
-          subst⁻¹ (λ (q : State). Refines (workersOf (planOf file)) q t k) (after-pass (planOf file) start turns i h (can-same e)) shows
+          subst⁻¹ (λ (q : State). Refines (workersOf (planOf file)) q t k)
+          (one-more (planOf file) start played w ∙ ap (λ (b : Bool). cond b (move (planOf file) s w) s) (can-same e)) shows

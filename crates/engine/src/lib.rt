@@ -1,5 +1,6 @@
 // The engine: the moves of the workers, and a list of turns.
 pub mod hold;
+pub mod onward;
 pub mod own;
 pub mod play;
 pub mod state;

@@ -1,4 +1,5 @@
-// A list of turns.
+// A list of turns, or a run to the end.
+use crate::onward::onward;
 use crate::own::play_own;
 use crate::state::Played;
 use crate::state::Schedule;
@@ -17,7 +18,7 @@ ghost use Prim.Native.Nat.{_≤_};
 ghost use lib.ListN.{length};
 ghost use Rattle.protocol.specs.Format.{workersLimit};
 ghost use Rattle.protocol.specs.Calls.{memoryLength};
-ghost use Rattle.engine.specs.Turning.{RoundBegun, Playing, Over};
+ghost use Rattle.engine.specs.Turning.{RoundBegun, Playing, PlayedOut};
 
 // Round 1 of n workers: all of them who are awake are in its list, and can move. The sum of shared memory's words is worked out here and
 // nowhere else.
@@ -52,6 +53,7 @@ fn first_round(
 }
 
 // Plays the turns from the start of round 1, at which the fates have these codes. A turn by a worker that cannot move passes.
+// A run to the end plays turns of its own choice out of stretches, as long as a worker can move.
 pub fn play(
     file: &[u8],
     n: u8,
@@ -59,12 +61,13 @@ pub fn play(
     firsts: &[usize; WORKERS_LIMIT + 1],
     first: [u64; WORKERS_LIMIT],
     turns: &[u8],
+    whole: bool,
     memory: &mut [u8],
     log: &mut [u8],
     work: &mut [u8],
 ) -> Played
-    requires { ⌜ Playing (now file) n (now sizes) (now firsts) first (now turns) (now memory) (now log) (now work) ⌝ }
-    ensures { λ p. ⌜ Over (now (file .entry)) (now (turns .entry)) (now (memory .entry)) p (now (memory .exit)) (now (log .exit)) (now (work .exit)) ⌝ }
+    requires { ⌜ Playing (now file) n (now sizes) (now firsts) first (now turns) whole (now memory) (now log) (now work) ⌝ }
+    ensures { λ p. ⌜ PlayedOut (now (file .entry)) (now (turns .entry)) whole (now (memory .entry)) p (now (memory .exit)) (now (log .exit)) (now (work .exit)) ⌝ }
 {
     let mut places = [0usize; WORKERS_LIMIT];
     let mut held = [0u64; WORKERS_LIMIT];
@@ -73,7 +76,7 @@ pub fn play(
     let mut can = [false; WORKERS_LIMIT];
     let mut copied = [false; SLOTS];
     let mut t = first_round(n as u64, &fates, &mut can, memory);
-    let mut i = 0;
+    let mut i = onward(whole, 0, &can);
     while i < turns.len() {
         let own = play_own(
             file,
@@ -117,6 +120,9 @@ pub fn play(
             if list.is_empty() {
                 return Played { schedule: t, fates };
             }
+            i = onward(whole, i, &can);
+        } else {
+            i = onward(whole, i, &can);
         }
     }
     Played { schedule: t, fates }

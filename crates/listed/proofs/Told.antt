@@ -9,17 +9,14 @@ use lib.Seq.{sets-eq}
 use Rattle.protocol.specs.Format.{Plan, planOf}
 use Rattle.protocol.specs.Refusals.{numberOf, Verdict, accepted, refused, codeOf, check}
 use Rattle.protocol.specs.Rounds.{State}
-use Rattle.protocol.specs.Turns.{workersOf}
-use Rattle.protocol.specs.RoundRun.{moveLimit}
 use Rattle.protocol.specs.Report.{End, underWay, finished, stuck, endOf, endNumber, reportBytes, logBytes}
-use Rattle.protocol.specs.Calls.{memoryLength, logLength, lentLog}
-use Rattle.protocol.specs.Listing.{listedTurns, listedState, logLines, refusalLine, linesOf, listing}
-use Rattle.protocol.specs.Demands.{Demand3}
+use Rattle.protocol.specs.Calls.{memoryLength, logLength, lentLog, playedFrom}
+use Rattle.protocol.specs.Listing.{listedTurns, turnsBy, listedState, logLines, refusalLine, linesOf, listing}
 use Rattle.protocol.proofs.Accepted.{sound-file}
 use Rattle.protocol.proofs.Numbered.{numbered}
 use Rattle.protocol.proofs.Bounds.{Bounded, played-bounded}
 use Rattle.protocol.proofs.Bytes.{word-bytes}
-use Rattle.protocol.proofs.Demand3.{demand3-file}
+use Rattle.protocol.proofs.Cycles.{listed-ends}
 use Rattle.protocol.proofs.Logged.{played-rounds}
 use Rattle.words.specs.Bytes.{wordAt}
 use Rattle.journal.specs.Offsets.{reportEnd, reportRecords, entriesLimit}
@@ -27,7 +24,6 @@ use Rattle.listed.specs.Listed.{listedRun, RanToEnd}
 use Rattle.tampermauve.proofs.Admitting.{none-refused}
 use Rattle.text.specs.Text.{Wrote, entriesFrom, endNumbered, lastLine}
 use Rattle.listed.specs.Text.{WroteListing}
-use Rattle.listed.proofs.Ended.{whole-cycles}
 use Rattle.text.proofs.Entries.{entries-back}
 
 pub refused-text : (file : List ℕ) (r : ℕ) → r ≡ codeOf (check file) → (r ≡ 0 → ⊥) → refusalLine (r % 256) (r / 256) ≡ listing file
@@ -60,12 +56,11 @@ module _ (file : List ℕ) (ok : check file ≡ accepted) where
   abbrev s : State
   s = listedState plan
 
-  d : Demand3 plan (replicate memoryLength 0) (listedTurns plan)
-  d = demand3-file file ok (replicate memoryLength 0) (listedTurns plan)
-
   -- the turns of a listing leave what the round-by-round run does
   run-played : listedRun file ≡ s
-  run-played = sym (d .sameEnd (d .cyclesEnd (whole-cycles (workersOf plan) (moveLimit plan))))
+  run-played =
+      sym (listed-ends file ok (replicate memoryLength 0))
+      ∙ ap (λ (v : Verdict). playedFrom plan (replicate memoryLength 0) (turnsBy v file)) ok
 
   b : Bounded plan s
   b = played-bounded plan (sound-file file ok) (replicate memoryLength 0) (listedTurns plan)

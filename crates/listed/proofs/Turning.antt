@@ -5,21 +5,22 @@ use native.Mathlib.Nat as nat
 use mathlib.Core.List.{List, _++_, map}
 use native.Mathlib.Omega.{arith}
 use native.Mathlib.Decide.{decLt}
-use lib.ListN.{length, getD, set, take, length-append, List·getD-append}
+use lib.ListN.{length, getD, set, take, List·getD-append}
 use lib.Seq.{getD-set-same, getD-set-other, getD-append-add, getD-take, ext-getD, length-take-le}
 use Rattle.protocol.specs.Format.{workersLimit, stepsLimit, Record, stepsIn, firstIn, workersIn, countFrom, upTo, records, planIn, planOf}
 use Rattle.protocol.specs.Refusals.{Verdict, accepted, check}
 use Rattle.protocol.specs.Turns.{workersOf}
 use Rattle.protocol.specs.RoundRun.{total, stepCount}
-use Rattle.protocol.specs.Listing.{cycles, listedTurns}
+use Rattle.protocol.specs.Listing.{cycles, listedTurns, turnsBy}
 use Rattle.protocol.proofs.Lists.{length-countFrom, getD-countFrom}
+use Rattle.protocol.proofs.Cycles.{length-cycles}
 use Rattle.protocol.proofs.Prefix.{Together}
 use Rattle.protocol.proofs.Accepted.{Accepted, accepted-file, workers-of}
 use Rattle.plan.specs.Answer.{verdictOf}
 use Rattle.plan.specs.Checking.{CheckedAs}
 use Rattle.plan.specs.declared.check.Checked.{Checked}
 use Rattle.plan.specs.declared.check.Layout.{Layout}
-use Rattle.listed.specs.Listed.{turnCount, endingTurns, turnsBy}
+use Rattle.listed.specs.Listed.{turnCount, endingTurns}
 
 -- ---- how many turns
 
@@ -97,16 +98,6 @@ measured file r checked e =
     }
 
 -- ---- the cycles, turn by turn
-
-length-cycles : (n k : ℕ) → length (cycles n k) ≡ k * n
-unfolding cycles
-length-cycles n zero = omega arith
-length-cycles n (suc k) =
-    let a = length-append (upTo n) (cycles n k) in
-    let b = length-countFrom n 0 in
-    let c = length-cycles n k in
-    let d = nat.suc-mul k n in
-    omega arith
 
 cycle-at : (n k i : ℕ) → i < k * n → getD (cycles n k) i 0 ≡ i % n
 unfolding cycles

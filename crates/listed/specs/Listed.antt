@@ -1,15 +1,13 @@
 -- Document 01, case 1: how many turns the listing program feeds a plan, and what it lists.
 use Prim.Native.Nat.{ℕ, _+_, _*_}
 use mathlib.Core.Path.{_≡_}
-use mathlib.Core.List.{List, []}
+use mathlib.Core.List.{List}
 use lib.ListN.{getD, replicate}
 use Rattle.protocol.specs.Format.{workersLimit, stepsLimit, planOf}
-use Rattle.protocol.specs.Refusals.{Verdict, accepted, refused}
 use Rattle.protocol.specs.Rounds.{State}
 use Rattle.protocol.specs.RoundRun.{roundRun}
 use Rattle.protocol.specs.Report.{underWay, endNumber, reportBytes}
 use Rattle.protocol.specs.Calls.{memoryLength, checkCode, lentLog}
-use Rattle.protocol.specs.Listing.{listedTurns}
 use Rattle.journal.specs.Offsets.{reportEnd}
 
 -- how many turns these are
@@ -19,11 +17,6 @@ turnCount steps n = 2 * (steps + n) * n
 -- the most turns: those of as many workers as a plan may have, each with as many steps
 abbrev pub endingTurns : ℕ
 endingTurns = turnCount (stepsLimit * workersLimit) workersLimit
-
--- the turns of a file by the check's verdict: those of its plan, none where it is refused
-abbrev pub turnsBy : Verdict → List ℕ → List ℕ
-turnsBy accepted file = listedTurns (planOf file)
-turnsBy (refused f i) file = []
 
 -- the round-by-round run from zero memory
 abbrev pub listedRun : List ℕ → State

@@ -8,7 +8,8 @@ ghost use Prim.Native.Nat.{ℕ, _*_, _+_, _%_, _≤_, _<_};
 ghost use lib.ListN.{length, getD, take};
 ghost use Rattle.protocol.specs.Format.{workersLimit, stepsLimit};
 ghost use Rattle.protocol.specs.Refusals as protocol;
-ghost use Rattle.listed.specs.Listed.{turnCount, endingTurns, turnsBy};
+ghost use Rattle.protocol.specs.Listing.{turnsBy};
+ghost use Rattle.listed.specs.Listed.{turnCount, endingTurns};
 
 // The most turns: those of WORKERS_LIMIT workers with STEPS_LIMIT steps each.
 pub const ENDING_TURNS: usize = 2 * (STEPS_LIMIT + 1) * WORKERS_LIMIT * WORKERS_LIMIT;

@@ -31,6 +31,7 @@ refusalOf refusal.BadBuffer = protocol.badBuffer
 refusalOf refusal.TooManyTurns = protocol.tooManyTurns
 refusalOf refusal.BadTurn = protocol.badTurn
 refusalOf refusal.BadSleep = protocol.badSleep
+refusalOf refusal.BadBatch = protocol.badBatch
 
 abbrev pub ruleAs : Rule → protocol.Rule
 ruleAs Holds = none

@@ -18,6 +18,7 @@ pub enum Refusal {
     TooManyTurns,
     BadTurn,
     BadSleep,
+    BadBatch,
 }
 
 // What one rule says: the reading goes on, or it ends with a refusal.
@@ -51,6 +52,7 @@ pub fn number(f: Refusal) -> u32
         Refusal::TooManyTurns => 12,
         Refusal::BadTurn => 13,
         Refusal::BadSleep => 14,
+        Refusal::BadBatch => 15,
     }
 }
 

@@ -23,7 +23,7 @@ pub word-bytes : (k : ℕ) → k < 65536 → word (k % 256) (k / 256 % 256) ≡ 
 word-bytes k h = omega arith
 
 -- the report's first byte
-end-byte : (s : State) → ended s ≡ true → endNumber (endOf s) ≡ 0 → ⊥
+pub end-byte : (s : State) → ended s ≡ true → endNumber (endOf s) ≡ 0 → ⊥
 unfolding endOf
 end-byte s e z = go (allFinal (s .workers)) (sym (ap (λ (b : Bool). endNumber (cond b (cond (allFinal (s .workers)) finished stuck) underWay)) e) ∙ z)
   where

@@ -1,4 +1,4 @@
--- Cases 1 to 10 and those behind them: the definitions yield the table.
+-- Cases 1 to 10 and those behind them, and the calls with several plans: the definitions yield the tables.
 use mathlib.Core.Path.{_≡_, refl}
 use mathlib.Core.List.{map}
 use Rattle.protocol.specs.Format.{recordFrom, recordsFrom, recordCount, records, rowIn, known, stepOf, sizeIn, sleepersIn, stepsIn, countFrom, planIn}
@@ -12,11 +12,14 @@ use Rattle.protocol.specs.Sum.{sumOf}
 use Rattle.protocol.specs.Report.{logBytes, allFinal, endOf, fateByte, reportBytes}
 use Rattle.protocol.specs.Calls.{runVerdict, lentLog, run}
 use Rattle.protocol.specs.Listing.{cycles}
+use Rattle.protocol.specs.Batch.{lengthAt, beginsAt, fileAt, partAt, partAs, batchVerdict, runPlans, runAll}
 use Rattle.protocol.proofs.Table.{turnsOf, padded, lentTo, yields, expected, expects, cases}
+use Rattle.protocol.proofs.BatchTable.{joined, batchLent, batchLeft, yieldsAll, expectsAll, batches}
 
-pub cases-hold : map yields cases ≡ map expects cases
+pub cases-hold : (map yields cases ≡ map expects cases) × (map yieldsAll batches ≡ map expectsAll batches)
 unfolding recordFrom recordsFrom recordCount records rowIn known stepOf sizeIn sleepersIn stepsIn countFrom planIn anyOf lengthRule planRule
     barrierRecordRule sleepRecordRule operandsOutside stepRule laterRule recordRule skipRule checkSkips checkRecords check page noCopies loadByte loadWord storeByte storeWord
     commitFrom newWorker ownStep keep queueOf ruleOf member freed apply newRound start allArrived can move turn play total runUp fence token
     roundsFrom sumOf logBytes allFinal endOf fateByte reportBytes runVerdict lentLog run cycles turnsOf padded lentTo yields expected expects cases
-cases-hold = refl
+    lengthAt beginsAt fileAt partAt partAs batchVerdict runPlans runAll joined batchLent batchLeft yieldsAll expectsAll batches
+cases-hold = (refl, refl)

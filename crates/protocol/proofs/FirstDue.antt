@@ -111,7 +111,7 @@ both-first [] us v next e h = subst⁻¹ (λ (u : Verdict). FirstDue us (both u 
 both-first (t ∷ ts) us v next e h =
     ⊎-elim (λ d. inl (d .0, ap (λ (u : Verdict). both u next) (d .1))) (λ d. inr (d .0, both-first ts us v next (d .1) h)) e
 
-same-length : (k n : ℕ) → not (eqb k n) ≡ false → k ≡ n
+pub same-length : (k n : ℕ) → not (eqb k n) ≡ false → k ≡ n
 same-length k n e = eqb-true k n (not-false (eqb k n) e)
 
 -- the lengths of the four buffers
@@ -130,11 +130,11 @@ fitting b e =
     let t = as-lent (length (b .memory)) (length (b .log)) (length (b .report)) (length (b .work)) e in
     record { memory = t .0; log = t .1; report = t .2; work = t .3 }
 
+pub fits-not : (b : Buffers) → Fitting b → misfit b ≡ false
+fits-not b f = simp (eq-eqb _ _ (f .memory), eq-eqb _ _ (f .log), eq-eqb _ _ (f .report), eq-eqb _ _ (f .work))
+
 pub misfitting : (b : Buffers) → misfit b ≡ true → Fitting b → ⊥
-misfitting b e f = false≢true (sym fits ∙ e)
-  where
-    fits : misfit b ≡ false
-    fits = simp (eq-eqb _ _ (f .memory), eq-eqb _ _ (f .log), eq-eqb _ _ (f .report), eq-eqb _ _ (f .work))
+misfitting b e f = false≢true (sym (fits-not b f) ∙ e)
 
 -- The verdict on a run is that of its first test that is due.
 pub run-first : (file turns : List ℕ) (b : Buffers) → FirstDue (runTests file turns b) (runVerdict file turns b)

@@ -26,6 +26,8 @@ pub mod Numbered
 pub mod Covered
 -- The verdicts of a check and of a run are those of the first test that is due.
 pub mod FirstDue
+-- Four: the same of many plans in one call.
+pub mod BatchDue
 -- The records of an accepted file are formed as `WellFormed` says.
 pub mod Described
 -- Accepted just when well-formed, and a run just when runnable.
@@ -64,11 +66,23 @@ pub mod Bytes
 pub mod Logged
 -- Three: the sum that each commit moves is the sum worked out afresh.
 pub mod Sums
+-- What a list of turns leaves has the lengths of the buffers that are lent.
+pub mod Sizes
+-- Four: whole cycles end every plan; parts back to back; each accepted plan of a call is run to its end.
+
+-- The listing program's turns are whole cycles, and end the plan.
+pub mod Cycles
+-- One part is put in its place, and all others stay.
+pub mod BatchParts
+-- What the separate call of a plan leaves, and that each accepted plan is run to its end.
+pub mod Batches
 -- The paper's cases, a check on the definitions.
 
 -- Cases 1 to 10 as one table, with the bytes that each leaves.
 pub mod Table
--- The definitions yield the table.
+-- Calls with several plans as another.
+pub mod BatchTable
+-- The definitions yield both tables.
 pub mod Cases
 -- The definitions yield case 1's text, byte by byte.
 pub mod Texts

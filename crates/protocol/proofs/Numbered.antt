@@ -2,9 +2,9 @@
 use Prim.Native.Nat.{_≤_}
 use native.Mathlib.Omega.{arith}
 use Rattle.protocol.specs.Refusals.{Refusal, badLength, badMark, badPlan, badBarrier, badWorker, badOp, badOperand, tooManySteps, noSize, skipTooFar, badBuffer}
-use Rattle.protocol.specs.Refusals.{tooManyTurns, badTurn, badSleep, numberOf}
+use Rattle.protocol.specs.Refusals.{tooManyTurns, badTurn, badSleep, badBatch, numberOf}
 
-pub numbered : (f : Refusal) → (1 ≤ numberOf f) × (numberOf f ≤ 14)
+pub numbered : (f : Refusal) → (1 ≤ numberOf f) × (numberOf f ≤ 15)
 numbered badLength = (omega arith, omega arith)
 numbered badMark = (omega arith, omega arith)
 numbered badPlan = (omega arith, omega arith)
@@ -19,3 +19,4 @@ numbered badBuffer = (omega arith, omega arith)
 numbered tooManyTurns = (omega arith, omega arith)
 numbered badTurn = (omega arith, omega arith)
 numbered badSleep = (omega arith, omega arith)
+numbered badBatch = (omega arith, omega arith)

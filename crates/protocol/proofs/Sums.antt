@@ -51,7 +51,7 @@ settle-moves lost copies memory = omega arith
 
 -- ---- one move, and a list of turns
 
-closed-memory : (s : State) → closed s .memory ≡ s .memory
+pub closed-memory : (s : State) → closed s .memory ≡ s .memory
 unfolding newRound
 closed-memory s = go (s .list)
   where

@@ -60,39 +60,39 @@ unfoldable pub expects : Case → List Reply
 expects c = expected c ∷ elim (c .fed) [ listing ↦ expected c ∷ [] | nothing ↦ [] ]
 
 -- a record of a plan file
-abbrev rec : ℕ → ℕ → ℕ → ℕ → List ℕ
+abbrev pub rec : ℕ → ℕ → ℕ → ℕ → List ℕ
 rec worker op register number = 0x4D ∷ 0x50 ∷ worker ∷ op ∷ register ∷ number % 256 ∷ number / 256 ∷ []
 
-abbrev planRec : ℕ → List ℕ
+abbrev pub planRec : ℕ → List ℕ
 planRec n = rec n 0 0 0
 
 abbrev sleepRec : ℕ → List ℕ
 sleepRec w = rec w 2 0 0
 
 -- a record of the log, in a round below 256
-abbrev entry : ℕ → ℕ → ℕ → ℕ → ℕ → List ℕ
+abbrev pub entry : ℕ → ℕ → ℕ → ℕ → ℕ → List ℕ
 entry round worker op number outcome = 0x4D ∷ 0x4C ∷ round ∷ 0 ∷ worker ∷ op ∷ number ∷ outcome ∷ []
 
 -- the report, its two-byte numbers being below 256
-abbrev report : ℕ → ℕ → ℕ → ℕ → ℕ → List ℕ → List ℕ → List ℕ
+abbrev pub report : ℕ → ℕ → ℕ → ℕ → ℕ → List ℕ → List ℕ → List ℕ
 report end n moves rounds records fates sum = end ∷ n ∷ moves ∷ 0 ∷ rounds ∷ 0 ∷ records ∷ 0 ∷ (fates ++ sum)
 
 -- the sum's four bytes, low byte first; below 256 the first alone
-abbrev sum : ℕ → ℕ → ℕ → ℕ → List ℕ
+abbrev pub sum : ℕ → ℕ → ℕ → ℕ → List ℕ
 sum a b c d = a ∷ b ∷ c ∷ d ∷ []
 
-abbrev small : ℕ → List ℕ
+abbrev pub small : ℕ → List ℕ
 small a = sum a 0 0 0
 
 -- the fates of two workers, and of one
-abbrev both : ℕ → ℕ → List ℕ
+abbrev pub both : ℕ → ℕ → List ℕ
 both f g = f ∷ g ∷ replicate 6 255
 
-abbrev one : ℕ → List ℕ
+abbrev pub one : ℕ → List ℕ
 one f = f ∷ replicate 7 255
 
 -- both workers exit in one round
-abbrev exits : ℕ → List ℕ
+abbrev pub exits : ℕ → List ℕ
 exits round = entry round 0 38 0 255 ++ entry round 1 38 0 255
 
 -- "Worker 0: load r0 from 2; skip 2 if r0 not zero; set r1 to 1; store r1 at 0. Worker 1: the same with addresses 0 and 2 exchanged."
@@ -106,7 +106,7 @@ race = planRec 2 ++ racer 0 2 0 ++ racer 1 0 2
 abbrev storesAt : ℕ → ℕ → ℕ → List ℕ
 storesAt w number address = rec w 16 0 number ++ rec w 18 0 address
 
-abbrev stores : ℕ → ℕ → List ℕ
+abbrev pub stores : ℕ → ℕ → List ℕ
 stores w number = storesAt w number 0
 
 -- add 1 at 0
@@ -137,7 +137,7 @@ abbrev leave : List ℕ → List ℕ
 leave [] = []
 leave (w ∷ ws) = entry 2 w 38 0 255 ++ leave ws
 
-abbrev case : List ℕ → List ℕ → Fed → List ℕ → List ℕ → List ℕ → Case
+abbrev pub case : List ℕ → List ℕ → Fed → List ℕ → List ℕ → List ℕ → Case
 case f l t m g r = record { file = f; lent = l; fed = t; memory = m; log = g; report = r }
 
 -- one worker commits a 9 at 0, and then fails

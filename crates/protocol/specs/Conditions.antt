@@ -1,4 +1,4 @@
--- Document 01, "Who can cause which refusal", and document 02, One, as a description: the condition of each refusal, and the order in which they are tested.
+-- Document 01, "Who can cause which refusal", and document 02, One and Four, as a description: the condition of each refusal, and the order in which they are tested.
 -- `Refusals` and `Calls` work the verdicts out; that the first test whose condition holds decides them is proved.
 use Prim.Native.Nat.{ℕ, zero, suc, _%_, _<_, _≤_}
 use mathlib.Core.Bool.{true, false}
@@ -9,11 +9,12 @@ use mathlib.Core.Option.{some}
 use lib.ListN.{length, getD}
 use Rattle.protocol.specs.Ops.{opPlanRecord, opBarrier, opStart}
 use Rattle.protocol.specs.Format.{Record, Row, recordLength, fileLimit, planMark, recordCount, records, planOf, rowOf, isBarrier, isSleep, isStep, isSkip, workersIn, stepsLimit}
-use Rattle.protocol.specs.Refusals.{Refusal, badLength, badMark, badPlan, badBarrier, badWorker, badOp, badOperand, tooManySteps, noSize, skipTooFar, badBuffer, tooManyTurns, badTurn, badSleep}
+use Rattle.protocol.specs.Refusals.{Refusal, badLength, badMark, badPlan, badBarrier, badWorker, badOp, badOperand, tooManySteps, noSize, skipTooFar, badBuffer, tooManyTurns, badTurn, badSleep, badBatch}
 use Rattle.protocol.specs.Refusals.{Verdict, accepted, refused}
 use Rattle.protocol.specs.Turns.{workersOf}
-use Rattle.protocol.specs.Calls.{Buffers, turnsLimit}
-use Rattle.protocol.specs.WellFormed.{recordAt, PlanRecord, BarrierRecord, SleepRecord, stepsBefore, stepsBehind, Fitting}
+use Rattle.protocol.specs.Calls.{Buffers, workLength, turnsLimit}
+use Rattle.protocol.specs.Batch.{Batch}
+use Rattle.protocol.specs.WellFormed.{recordAt, PlanRecord, BarrierRecord, SleepRecord, stepsBefore, stepsBehind, Fitting, EvenlyLent}
 
 -- "1, file length 0, not a multiple of 7, or above" 7,280
 abbrev pub LengthAmiss : List ℕ → Type 0
@@ -126,6 +127,12 @@ runTests file turns b =
     ∷ test tooManyTurns 0 (turnsLimit < length turns)
     ∷ (fileTests file
     ++ (test badTurn 0 ((k : ℕ) × (k < length turns) × (workersOf (planOf file) ≤ getD turns k 0)) ∷ []))
+
+-- Four: "another length of it is 11, tested first. Refused: 15, a count outside 1 to 40, lengths that don't add up to the bytes lent, or
+-- another buffer not count times its unit"
+abbrev pub batchTests : ℕ → List ℕ → List ℕ → Batch → List Test
+batchTests count files lengths b =
+    test badBuffer 0 (length (b .work) ≡ workLength → ⊥) ∷ test badBatch 0 (EvenlyLent count files lengths b → ⊥) ∷ []
 
 -- The first test that is due decides: its refusal and index are the verdict. Where none is due, the verdict is accepted.
 unfoldable pub FirstDue : List Test → Verdict → Type 0

@@ -1,18 +1,19 @@
 -- Demand 3: the outcome does not hang on who moved first. What is claimed, of the definitions and of the bytes that a run leaves. And
--- document 02, Three, of the sum.
-use Prim.Native.Nat.{ℕ, zero, suc, _+_, _-_, _*_, _<_, _≤_}
+-- document 02, Three, of the sum, and Four, of many plans.
+use Prim.Native.Nat.{ℕ, zero, suc, _+_, _-_, _<_, _≤_}
 use mathlib.Core.Bool.{true, cond}
 use mathlib.Core.Path.{_≡_}
 use mathlib.Core.List.{List, [], _∷_, _++_}
 use lib.Dec.{eqb}
 use lib.ListN.{length, getD, replicate}
-use Rattle.protocol.specs.Format.{word, Plan}
+use Rattle.protocol.specs.Format.{word, longAt, Plan, planOf}
 use Rattle.protocol.specs.Rounds.{Entry}
 use Rattle.protocol.specs.Turns.{workersOf, start, movingTurns, ended}
 use Rattle.protocol.specs.RoundRun.{moveLimit, roundRun}
 use Rattle.protocol.specs.Sum.{sumOf, keptSum}
 use Rattle.protocol.specs.Report.{logBytes}
-use Rattle.protocol.specs.Calls.{Buffers, buffersOf, logLength, playedFrom}
+use Rattle.protocol.specs.Calls.{Buffers, buffersOf, memoryLength, logLength, playedFrom}
+use Rattle.protocol.specs.Batch.{Batch, fileAt, partAt, partsOf}
 
 -- "A whole cycle is n turns, one right behind the other, that name each of the n workers once"
 unfoldable pub occurs : ℕ → List ℕ → ℕ
@@ -70,6 +71,11 @@ SumKept plan memory turns = keptSum plan (start plan memory) (sumOf memory) turn
 
 -- .. and of the bytes that an accepted run leaves: the report's last four, low byte first, are the sum of the words of the memory that is left
 abbrev pub SumShown : Buffers → Type 0
-SumShown left =
-    word (getD (left .report) 16 0) (getD (left .report) 17 0) + 65536 * word (getD (left .report) 18 0) (getD (left .report) 19 0)
-    ≡ sumOf (left .memory)
+SumShown left = longAt (left .report) 16 ≡ sumOf (left .memory)
+
+-- Four: "Each is run with whole cycles to its end": what an accepted plan leaves in its parts is what the round-by-round run leaves, from
+-- its own memory as it was lent
+abbrev pub EachToItsEnd : ℕ → List ℕ → List ℕ → Batch → Batch → Type 0
+EachToItsEnd count files lengths before after =
+    (k : ℕ) → k < count → getD (after .answers) k 0 ≡ 0
+    → partsOf k after ≡ buffersOf (roundRun (planOf (fileAt files lengths k)) (partAt memoryLength k (before .memories)))

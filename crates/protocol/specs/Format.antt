@@ -12,6 +12,11 @@ use Rattle.protocol.specs.Ops.{opLock, opUnlock, opWait, opSignal, opBro
 abbrev pub word : ℕ → ℕ → ℕ
 word low high = low + 256 * high
 
+-- a number of four bytes, as Three and Four have them: low byte first
+abbrev pub longAt : List ℕ → ℕ → ℕ
+longAt bytes at =
+    word (getD bytes at 0) (getD bytes (at + 1) 0) + 65536 * word (getD bytes (at + 2) 0) (getD bytes (at + 3) 0)
+
 -- "Records of 7 bytes: the mark 4D 50, worker, op, register (one byte each), number (two bytes)."
 abbrev pub recordLength : ℕ
 recordLength = 7

@@ -22,11 +22,13 @@ pub mod Sum
 pub mod Report
 -- "Calls and buffers": what the two host calls return and leave.
 pub mod Calls
+-- Case 1: the listing program's turns and text.
+pub mod Listing
+-- Four: many plans in one call.
+pub mod Batch
 -- "Plan file" and "Calls and buffers" as a description: what a well-formed file is, and what a run accepts.
 pub mod WellFormed
 -- "Who can cause which refusal" as a description: each refusal's condition, and the order of the tests.
 pub mod Conditions
--- Case 1: the listing program's turns and text.
-pub mod Listing
 -- Demand 3.
 pub mod Demands

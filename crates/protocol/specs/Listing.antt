@@ -23,6 +23,11 @@ cycles n (suc k) = upTo n ++ cycles n k
 abbrev pub listedTurns : Plan → List ℕ
 listedTurns plan = cycles (workersOf plan) (moveLimit plan)
 
+-- the turns of a file by the check's verdict: those of its plan, none where it is refused
+abbrev pub turnsBy : Verdict → List ℕ → List ℕ
+turnsBy accepted file = listedTurns (planOf file)
+turnsBy (refused f i) file = []
+
 -- "uses zero memory and 2 × (steps + n) cycles": the state that they leave
 abbrev pub listedState : Plan → State
 listedState plan = playedFrom plan (replicate memoryLength 0) (listedTurns plan)

@@ -1,4 +1,4 @@
--- Document 01, "Who can cause which refusal", and document 02, One: the refusals, and the check of a plan file.
+-- Document 01, "Who can cause which refusal", and document 02, One and Four: the refusals, and the check of a plan file.
 use Prim.Native.Nat.{ℕ, suc, _+_, _*_, _%_}
 use mathlib.Core.Bool.{Bool, true, false, cond, not, _&&_, _||_}
 use mathlib.Core.List.{List, [], _∷_, _++_}
@@ -11,7 +11,7 @@ use Rattle.protocol.specs.Format.{sizeLimit, stepsLimit}
 
 pub data Refusal : Type 0 where
   badLength badMark badPlan badBarrier badWorker badOp badOperand tooManySteps noSize skipTooFar : Refusal
-  badBuffer tooManyTurns badTurn badSleep : Refusal
+  badBuffer tooManyTurns badTurn badSleep badBatch : Refusal
 
 -- The paper's numbers.
 abbrev pub numberOf : Refusal → ℕ
@@ -29,6 +29,7 @@ numberOf badBuffer = 11
 numberOf tooManyTurns = 12
 numberOf badTurn = 13
 numberOf badSleep = 14
+numberOf badBatch = 15
 
 -- "A refusal returns its number and a record index (the plan record being 0; 0 unless stated)"
 pub data Verdict : Type 0 where

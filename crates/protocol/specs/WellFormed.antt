@@ -1,4 +1,4 @@
--- Document 01, "Plan file" and "Calls and buffers", and document 02, One, as a description: what a well-formed file is, and what a run accepts. It speaks of no
+-- Document 01, "Plan file" and "Calls and buffers", and document 02, One and Four, as a description: what a well-formed file is, and what a call accepts. It speaks of no
 -- test and of no order of tests.
 use Prim.Native.Nat.{ℕ, suc, _*_, _<_, _≤_}
 use mathlib.Core.Bool.{true}
@@ -12,6 +12,7 @@ use Rattle.protocol.specs.Format.{Record, Row, recordLength, fileLimit, 
 use Rattle.protocol.specs.Format.{barrierCount, sizeLimit, stepsLimit}
 use Rattle.protocol.specs.Turns.{workersOf}
 use Rattle.protocol.specs.Calls.{Buffers, memoryLength, logLength, reportLength, workLength, turnsLimit}
+use Rattle.protocol.specs.Batch.{Batch, plansLimit, lengthBytes, beginsAt}
 
 -- no record: its op has no row
 abbrev pub blank : Record
@@ -116,3 +117,14 @@ pub record Runnable (file turns : List ℕ) (b : Buffers) : Type 0 where
   pub short : length turns ≤ turnsLimit
   pub wellFormed : WellFormed file
   pub named : (k : ℕ) → k < length turns → getD turns k 0 < workersOf (planOf file)
+
+-- Four: "1 to 40 plan files back to back", lengths that add up to their bytes, and a part of each buffer for each plan
+pub record EvenlyLent (count : ℕ) (files lengths : List ℕ) (b : Batch) : Type 0 where
+  pub least : 1 ≤ count
+  pub most : count ≤ plansLimit
+  pub lengthsFit : length lengths ≡ lengthBytes * count
+  pub memoriesFit : length (b .memories) ≡ memoryLength * count
+  pub logsFit : length (b .logs) ≡ logLength * count
+  pub reportsFit : length (b .reports) ≡ reportLength * count
+  pub answersFit : length (b .answers) ≡ count
+  pub sum : beginsAt lengths count ≡ length files

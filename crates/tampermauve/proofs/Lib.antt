@@ -8,3 +8,13 @@ pub mod Left
 pub mod Ran
 -- What an admitted run goes in with.
 pub mod Entering
+-- The tests of a call with many plans.
+pub mod Uneven
+-- Where its files begin.
+pub mod Beginning
+-- What one plan of it takes and leaves.
+pub mod Alone
+-- What plan after plan leaves.
+pub mod PlanByPlan
+-- What the whole call returns and leaves.
+pub mod AllRan

@@ -1,16 +1,19 @@
 -- What a run is admitted by, and what the call ensures.
 use Prim.Native.Nat.{ℕ}
-use mathlib.Core.Bool.{Bool}
+use mathlib.Core.Bool.{Bool, true, false}
 use mathlib.Core.Path.{_≡_}
 use mathlib.Core.List.{List}
 use lib.Dec.{ltb}
 use lib.ListN.{length}
 use Rattle.protocol.specs.Format.{planOf}
 use Rattle.protocol.specs.Refusals.{codeOf, check}
-use Rattle.protocol.specs.Turns.{workersOf}
-use Rattle.protocol.specs.Calls.{Buffers, Reply, turnsLimit, misfitBy, namesNobody, verdictBy, run}
+use Rattle.protocol.specs.Turns.{workersOf, ended}
+use Rattle.protocol.specs.Report.{reportBytes}
+use Rattle.protocol.specs.Calls.{Buffers, Reply, reportLength, turnsLimit, misfitBy, namesNobody, verdictBy, lentLog, playedFrom, run}
 use Rattle.protocol.specs.Demands.{Demand3Bytes, SumShown}
 use Rattle.plan.specs.Checking.{LaidOut}
+use Rattle.plan.specs.declared.check.Layout.{Layout}
+use Rattle.engine.specs.Turning.{Playing}
 use Rattle.tampermauve.specs.declared.admit.Lengths.{Lengths}
 use Rattle.tampermauve.specs.declared.admit.Admitted.{Admitted}
 
@@ -31,6 +34,20 @@ answerBy file turns buffers =
 pub record Admits (file turns : List ℕ) (l : Lengths) (a : Admitted) : Type 0 where
   pub code : a .code ≡ answerBy file turns (unfit l)
   pub layout : a .code ≡ 0 → LaidOut file (a .layout)
+
+-- what playing an accepted file and closing its buffers takes
+pub record Performing (file : List ℕ) (l : Layout) (turns : List ℕ) (whole : Bool) (memory log report work : List ℕ) : Type 0 where
+  pub playing : Playing file (l .workers) (l .sizes) (l .firsts) (l .fates) turns whole memory log work
+  pub size : length report ≡ reportLength
+
+-- and leaves: memory, log and report of the state that the turns leave, or, in a run to the end, some turns that end the plan
+pub record Performed (file turns : List ℕ) (whole : Bool) (start memory log report : List ℕ) : Type 0 where
+  pub played : List ℕ
+  pub listed : whole ≡ false → played ≡ turns
+  pub ends : whole ≡ true → ended (playedFrom (planOf file) start played) ≡ true
+  pub sameMemory : memory ≡ playedFrom (planOf file) start played .memory
+  pub sameLog : log ≡ lentLog (playedFrom (planOf file) start played)
+  pub sameReport : report ≡ reportBytes (playedFrom (planOf file) start played)
 
 -- what is returned and left is what the definition gives; and, of the bytes that an accepted run leaves, demand 3 and the sum
 pub record Ran (file turns : List ℕ) (before : Buffers) (r : ℕ) (after : Buffers) : Type 0 where

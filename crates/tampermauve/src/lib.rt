@@ -1,15 +1,22 @@
 // The host calls.
 mod admit;
+mod batch;
+mod each;
+mod perform;
 
 use crate::admit::Lengths;
 use crate::admit::admit;
-use ending::close_buffers;
-use engine::play::play;
+use crate::batch::BatchLengths;
+use crate::batch::admit_batch;
+use crate::each::clear_if;
+use crate::each::run_plans;
+use crate::perform::perform;
 use plan::answer::code;
 use plan::check::check;
 ghost use mathlib.Core.Path.{_≡_};
 ghost use Rattle.protocol.specs.Calls.{checkCode};
 ghost use Rattle.tampermauve.specs.Run.{lent, Ran};
+ghost use Rattle.tampermauve.specs.All.{batch, RanAll};
 
 // What a call that is not refused returns.
 pub const ACCEPTED: u32 = 0;
@@ -48,33 +55,51 @@ pub extern "C" fn tampermauve_run(
     if admitted.code != ACCEPTED {
         return admitted.code;
     }
-    let workers = admitted.layout.workers;
-    let sizes = admitted.layout.sizes;
-    let firsts = admitted.layout.firsts;
-    let first = admitted.layout.fates;
-    let played = play(
-        file,
-        workers,
-        &sizes,
-        &firsts,
-        first,
-        turns,
-        memory,
-        log,
+    let layout = admitted.layout;
+    perform(file, layout, turns, false, memory, log, report, work);
+    words::clear(work);
+    ACCEPTED
+}
+
+// Runs so many plans, each to its end, and gives an answer for each. ACCEPTED, or the refusal of the whole call, with no byte changed.
+#[no_mangle]
+pub extern "C" fn tampermauve_run_all(
+    count: usize,
+    files: &[u8],
+    lengths: &[u8],
+    memories: &mut [u8],
+    logs: &mut [u8],
+    reports: &mut [u8],
+    answers: &mut [u8],
+    work: &mut [u8],
+) -> u32
+    ensures { λ r. ⌜ RanAll count (now (files .entry)) (now (lengths .entry))
+        (batch (now (memories .entry)) (now (logs .entry)) (now (reports .entry)) (now (answers .entry)) (now (work .entry))) r
+        (batch (now (memories .exit)) (now (logs .exit)) (now (reports .exit)) (now (answers .exit)) (now (work .exit))) ⌝ }
+{
+    let lent = BatchLengths {
+        files: files.len(),
+        lengths: lengths.len(),
+        memories: memories.len(),
+        logs: logs.len(),
+        reports: reports.len(),
+        answers: answers.len(),
+        work: work.len(),
+    };
+    let code = admit_batch(count, lengths, lent);
+    if code != ACCEPTED {
+        return code;
+    }
+    let accepted = run_plans(
+        count,
+        files,
+        lengths,
+        memories,
+        logs,
+        reports,
+        answers,
         work,
     );
-    let t = played.schedule;
-    let fates = played.fates;
-    let counts = t.counts;
-    close_buffers(
-        t.lists.list,
-        counts,
-        &fates,
-        workers,
-        t.sum,
-        log,
-        report,
-        work,
-    );
+    clear_if(accepted, work);
     ACCEPTED
 }

@@ -1,10 +1,11 @@
 -- Who can move, by the marks that the code keeps.
-use Prim.Native.Nat.{ℕ, _+_, _-_}
+use Prim.Native.Nat.{ℕ, _+_, _-_, _≤_, _<_}
 use mathlib.Core.Bool.{Bool, true, false, cond}
 use mathlib.Core.Path.{_≡_}
 use mathlib.Core.List.{List, []}
 use lib.Dec.{eqb}
 use lib.ListN.{length, getD, set}
+use Rattle.protocol.specs.Format.{workersLimit}
 use Rattle.protocol.specs.Turns.{noneLeft}
 use Rattle.queue.specs.List.{listOf, Holds, setAll}
 use Rattle.queue.specs.declared.Queue.{Queue}
@@ -37,3 +38,9 @@ pub record SameRound (list next : Queue) (h rounds : ℕ) (can : List Bool) (r :
 pub record TurnedOver (list next : Queue) (h rounds : ℕ) (can : List Bool) (r : Round) (can′ : List Bool) : Type 0 where
   pub ends : noneLeft (listOf list) ≡ true → NewRound next h rounds can r can′
   pub goes : noneLeft (listOf list) ≡ false → SameRound list next h rounds can r can′
+
+-- the first worker that can move, or as many as there may be if none can
+pub record FirstAble (can : List Bool) (w : ℕ) : Type 0 where
+  pub within : w ≤ workersLimit
+  pub able : w < workersLimit → getD can w false ≡ true
+  pub idle : (v : ℕ) → v < w → getD can v false ≡ false

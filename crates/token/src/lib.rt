@@ -9,7 +9,7 @@ ghost use Prim.Native.Nat.{_+_, _-_, _≤_, _<_};
 ghost use lib.ListN.{length, getD};
 ghost use Rattle.protocol.specs.Format.{workersLimit};
 ghost use Rattle.queue.specs.List.{listOf, Good, Below};
-ghost use Rattle.token.specs.Token.{arrivedCan, raised, TurnedOver};
+ghost use Rattle.token.specs.Token.{arrivedCan, raised, TurnedOver, FirstAble};
 
 // The round's list and the next one's, how many of the list have not arrived, and the rounds that are completed.
 pub struct Round {
@@ -78,4 +78,18 @@ pub fn turn_over(
         away,
         rounds: rounds + 1,
     }
+}
+
+// The first worker that can move, or WORKERS_LIMIT if there is none.
+pub fn first_able(can: &[bool; WORKERS_LIMIT]) -> usize
+    ensures { λ w. ⌜ FirstAble (now (can .entry)) w ⌝ }
+{
+    let mut w = 0;
+    while w < WORKERS_LIMIT {
+        if can[w] {
+            return w;
+        }
+        w += 1;
+    }
+    w
 }

@@ -3,7 +3,7 @@ ghost use mathlib.Core.Path.{_≡_};
 ghost use Prim.Native.Nat.{_+_, _/_, _%_, _≤_};
 ghost use lib.ListN.{length, replicate};
 ghost use lib.Seq.{sets};
-ghost use Rattle.protocol.specs.Format.{word as Format·word};
+ghost use Rattle.protocol.specs.Format.{longAt, word as Format·word};
 ghost use Rattle.words.specs.Bytes.{wordAt, bytesOf};
 
 // Two bytes as a number.
@@ -19,6 +19,14 @@ pub fn word_at(bytes: &[u8], at: usize) -> u16
     ensures { λ r. ⌜ r ≡ wordAt (now (bytes .entry)) at ⌝ }
 {
     word(bytes[at], bytes[at + 1])
+}
+
+// The four-byte number at a place.
+pub fn long_at(bytes: &[u8], at: usize) -> u32
+    requires { ⌜ at + 4 ≤ length (now bytes) ⌝ }
+    ensures { λ r. ⌜ r ≡ longAt (now (bytes .entry)) at ⌝ }
+{
+    word_at(bytes, at) as u32 + 65536 * (word_at(bytes, at + 2) as u32)
 }
 
 pub fn low_byte(number: u16) -> u8

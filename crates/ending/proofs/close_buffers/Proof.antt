@@ -9,9 +9,6 @@ end-of-requires c κs = search needs
 clear-behind-requires : tie.Need-clear-behind-requires
 clear-behind-requires c κs = search needs
 
-clear-requires : tie.Need-clear-requires
-clear-requires c κs = search needs
-
 write-report-requires : tie.Need-write-report-requires
 write-report-requires c κs = search needs
 
@@ -21,16 +18,13 @@ same-length c = search needs
 same-length-2 : tie.Need-same-length-2
 same-length-2 c = search needs
 
-same-length-3 : tie.Need-same-length-3
-same-length-3 c = search needs
-
 returns : tie.Need-returns
 returns c =
     let wrote = c .before .before in
-    let end-of = wrote .before .before .before .before .before .before .before .before .before .before .end-of in
-    record { logged = search needs; reported = rw (← end-of .ensures) (wrote .write-report .ensures); cleared = search needs }
+    let end-of = wrote .before .before .before .before .before .before .end-of in
+    record { logged = search needs; reported = rw (← end-of .ensures) (wrote .write-report .ensures) }
 
 pub close-buffers-spec : {M : Type 1} → statement M
 close-buffers-spec =
     tie.close
-    (tie.spec end-of-requires clear-behind-requires clear-requires write-report-requires same-length same-length-2 same-length-3 returns)
+    (tie.spec end-of-requires clear-behind-requires write-report-requires same-length same-length-2 returns)

@@ -4,11 +4,12 @@ use Prim.Native.Nat.{ℕ}
 use native.Mathlib.Omega.{arith}
 use mathlib.Core.Path.{_≡_}
 use mathlib.Core.List.{List}
+use lib.ListN.{length}
 use Rattle.protocol.specs.Calls.{Buffers}
 use Rattle.tampermauve.specs.Run.{lent}
 use Rattle.tampermauve.proofs.Ran.{ran, refusal, acceptance}
-use Rattle.tampermauve.proofs.Left.{closes, left-same, sum-left}
-use Rattle.tampermauve.proofs.Entering.{answered, buffers-fit, file-ok, workers-right, playing}
+use Rattle.tampermauve.proofs.Left.{left-same, sum-left}
+use Rattle.tampermauve.proofs.Entering.{answered, buffers-fit, performing}
 use Rattle.tampermauve.proofs.tampermauve_run.Statement.{statement}
 use Rattle.tampermauve.proofs.tampermauve_run.Tie as tie
 
@@ -43,31 +44,14 @@ module _ (c : tie.Else1) where
   none : admitted .admit .result .code ≡ 0
   none = omega (arith, c .if1 .left)
 
-play-requires : tie.Need-play-requires
-play-requires c κs =
-    let e = c .before .before .before .before .before .before .before .before in
+perform-requires : tie.Need-perform-requires
+perform-requires c κs =
+    let e = c .before .before .before .before .before in
     let a = admitted e in
-    playing (file a) (turns a) (given a) _ (a .admit .ensures) (none e)
+    performing (file a) (turns a) (given a) _ (a .admit .ensures) (none e)
 
--- the turns are played
-abbrev at-play : tie.After-close-buffers-arg3 → tie.After-play
-at-play c = c .before .before .before .before .before .before .before .before .before .before .before .before .before
-
--- .. and memory has come back, bytes as before
-abbrev at-memory : tie.After-close-buffers-arg3 → tie.After-slice-known5
-at-memory c = c .before .before .before .before .before .before .before .before .before .before .before
-
-abbrev at-else : tie.After-play → tie.Else1
-at-else c = c .before .before .before .before .before .before .before .before .before
-
-close-buffers-requires : tie.Need-close-buffers-requires
-close-buffers-requires c κs =
-    let p = at-play c in
-    let a = admitted (at-else p) in
-    let h = a .admit .ensures in
-    let z = none (at-else p) in
-    closes (file a) (turns a) (given a .memory) (file-ok (file a) (turns a) (given a) _ h z) (p .play .result) _
-    (workers-right (file a) (turns a) (given a) _ h z) (p .play .ensures) (buffers-fit (file a) (turns a) (given a) _ h z .report)
+clear-requires : tie.Need-clear-requires
+clear-requires c κs = search needs
 
 same-length : tie.Need-same-length
 same-length c = search needs
@@ -81,19 +65,29 @@ same-length-3 c = search needs
 same-length-4 : tie.Need-same-length-4
 same-length-4 c = search needs
 
+-- the plan is performed, and memory has come back, bytes as before
+abbrev at-memory : tie.After-clear → tie.After-slice-known5
+at-memory c = c .before .before .before .before .before .before .before .before
+
+abbrev at-perform : tie.After-clear → tie.After-perform
+at-perform c = at-memory c .before .before
+
+abbrev at-else : tie.After-perform → tie.Else1
+at-else c = c .before .before .before .before .before .before
+
 returns-2 : tie.Need-returns-2
 returns-2 c =
-    let closed = c .before .before .before .before .before .before in
-    let p = at-play (closed .before) in
-    let a = admitted (at-else p) in
+    let cleared = c .before .before in
+    let p = at-perform cleared in
+    let e = at-else p in
+    let a = admitted e in
     let h = a .admit .ensures in
-    let z = none (at-else p) in
+    let fit = buffers-fit (file a) (turns a) (given a) _ h (none e) in
     ran (file a) (turns a) (given a) 0 _
-    (acceptance (file a) (turns a) (given a) _ (answered (file a) (turns a) (given a) _ h z)
-    (left-same (file a) (turns a) (given a .memory) (file-ok (file a) (turns a) (given a) _ h z) (p .play .result) _
-    (workers-right (file a) (turns a) (given a) _ h z) (p .play .ensures) (closed .close-buffers .ensures)))
-    (λ e. sum-left (file a) (turns a) (given a .memory) (file-ok (file a) (turns a) (given a) _ h z) (p .play .result) _
-    (workers-right (file a) (turns a) (given a) _ h z) (p .play .ensures) (closed .close-buffers .ensures) (λ i. omega (arith, at-memory (closed .before) .slice-known5 .given i)))
+    (acceptance (file a) (turns a) (given a) _ (answered (file a) (turns a) (given a) _ h (none e))
+    (left-same (file a) (turns a) (given a .memory) (p .perform .ensures) {long = length (p .perform .last .1 .1 .1 .1 .1 .1 .1 .0)} (cleared .clear .ensures) (omega (arith, p .perform .kept, fit .work))))
+    (λ z. sum-left (file a) (turns a) (given a .memory) (p .perform .ensures) {long = length (p .perform .last .1 .1 .1 .1 .1 .1 .1 .0)} (cleared .clear .ensures) (omega (arith, p .perform .kept, fit .work))
+    (λ i. omega (arith, at-memory cleared .slice-known5 .given i)) (omega (arith, p .perform .kept, fit .memory)))
 
 pub tampermauve-run-spec : {M : Type 1} → statement M
 tampermauve-run-spec =
@@ -101,8 +95,8 @@ tampermauve-run-spec =
     (tie.spec
     admit-requires
     returns
-    play-requires
-    close-buffers-requires
+    perform-requires
+    clear-requires
     same-length
     same-length-2
     same-length-3

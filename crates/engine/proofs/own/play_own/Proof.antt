@@ -6,7 +6,6 @@ use mathlib.Core.Path.{_∙_, sym, refl}
 use lib.ListN.{length, getD}
 use Rattle.protocol.specs.Format.{workersLimit}
 use Rattle.engine.specs.Kept.{keptOwn}
-use Rattle.engine.proofs.Playing.{turn-small}
 use Rattle.engine.proofs.Here.{small, fetch-fits, own-fits}
 use Rattle.engine.proofs.OwnTurns.{SoFar, none-yet, moves-small, passes, here, moves-on}
 use Rattle.engine.proofs.own.play_own.Statement.{statement}
@@ -38,7 +37,7 @@ from-own c = c .before .before .before .before .before .before .before
 
 -- a turn names one of eight workers
 named : (c : tie.After-shared-slice-known4 Inv-loop μ-loop) → getD (from-loop (from-turn c) .args .turns .now) (from-turn c .loop .i) 0 < workersLimit
-named c = turn-small (from-loop (from-turn c) .pre .named) _ (c .before .loop-test .taken)
+named c = from-loop (from-turn c) .pre .named .below _ (c .before .loop-test .taken)
 
 loop-holds : tie.Need-loop-holds Inv-loop μ-loop
 loop-holds c = none-yet (c .before .before .before .before .pre)
@@ -153,7 +152,7 @@ pass-over-requires : tie.Need-pass-over-requires Inv-loop μ-loop
 pass-over-requires c κs =
     let t = c .before .before in
     let p = from-loop (from-turn t) .pre .named in
-    record { within = omega (arith, t .before .loop-test .taken); short = p .short; named = turn-small p }
+    record { within = omega (arith, t .before .loop-test .taken); short = p .short; named = p .below }
 
 loop-less-2 : tie.Need-loop-less-2 Inv-loop μ-loop
 loop-less-2 c = omega (arith, c .before .before .before .before .loop-test .taken, c .pass-over .ensures .onward)

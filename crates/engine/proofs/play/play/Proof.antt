@@ -1,27 +1,28 @@
--- `play`: the turns of a run.
+-- `play`: the turns of a run, up to the list's end or the plan's.
 use borrow.Author.Needs.{needs}
 use native.Mathlib.Omega.{arith}
 use Prim.Native.Nat.{ℕ, _-_}
+use mathlib.Core.Bool.{cond}
 use mathlib.Core.Path.{_∙_, sym}
 use mathlib.Core.List.{List}
 use lib.ListN.{length}
 use Rattle.engine.specs.Kept.{Kept, kept, keptOwn}
-use Rattle.engine.proofs.Playing.{plan-sound, turn-small}
-use Rattle.engine.proofs.Played.{PlayedSoFar, begins, turning, went-on, syncing, stands-on, ends-here, all-played}
+use Rattle.engine.proofs.Playing.{plan-sound}
+use Rattle.engine.proofs.Played.{Standing, begins, goes-on, turning, went-on, one-at-least, syncing, stands-on, rises-on, few-moves, ends-here, all-played, falls}
 use Rattle.engine.proofs.play.play.Statement.{statement}
 use Rattle.engine.proofs.play.play.Tie as tie
 
 abbrev Inv-loop : tie.InvT-loop
-Inv-loop file n sizes firsts turns memory₀ log₀ work₀ places₀ held₀ registers₀ fates₀ can₀ copied₀ t₀ i₀ memory log work places held registers fates can copied t i =
-    PlayedSoFar file turns memory₀ i t (kept places held registers fates can copied memory log work)
+Inv-loop file n sizes firsts turns whole memory₀ log₀ work₀ places₀ held₀ registers₀ fates₀ can₀ copied₀ t₀ i₀ memory log work places held registers fates can copied t i =
+    Standing file turns whole memory₀ i t (kept places held registers fates can copied memory log work)
 
 abbrev μ-loop : tie.MeasureT-loop
-μ-loop file n sizes firsts turns memory₀ log₀ work₀ places₀ held₀ registers₀ fates₀ can₀ copied₀ t₀ i₀ memory log work places held registers fates can copied t i =
-    length turns - i
+μ-loop file n sizes firsts turns whole memory₀ log₀ work₀ places₀ held₀ registers₀ fates₀ can₀ copied₀ t₀ i₀ memory log work places held registers fates can copied t i =
+    cond whole (2065 - t .counts .moves) (length turns - i)
 
 -- the places that later needs look back to
 abbrev from-loop : tie.At-loop Inv-loop μ-loop → tie.Start Inv-loop μ-loop
-from-loop c = c .before .before .before .before .before .before .before .before .before .before
+from-loop c = c .before .before .before .before .before .before .before .before .before .before .before .before
 
 abbrev from-own : tie.After-play-own Inv-loop μ-loop → tie.At-loop Inv-loop μ-loop
 from-own c = c .before .before .before .before .before .before .before .before .before
@@ -44,19 +45,25 @@ first-round-requires c κs =
     let p = c .before .before .before .before .before .before .before .before .pre in
     (omega (arith, p .workers, plan-sound (p .named) .workers), p .bytes .memoryLength)
 
+onward-requires : tie.Need-onward-requires Inv-loop μ-loop
+onward-requires c κs = search needs
+
 loop-holds : tie.Need-loop-holds Inv-loop μ-loop
-loop-holds c = begins (c .before .before .before .before .before .before .before .before .before .pre) (c .first-round .ensures)
+loop-holds c =
+    let begun = c .before .before in
+    let p = begun .before .before .before .before .before .before .before .before .before .pre in
+    goes-on p (begins p (begun .first-round .ensures)) (c .onward .ensures)
 
 play-own-requires : tie.Need-play-own-requires Inv-loop μ-loop
 play-own-requires c κs =
     let l = c .before .before .before .before .before .before .before .before in
-    turning (from-loop l .pre) (lent l) (l .loop .fates) (l .loop .log) (l .loop .inv)
+    turning (from-loop l .pre) (lent l) (l .loop .fates) (l .loop .log) (l .loop .inv .so)
 
 shared-slice-read-w : tie.Need-shared-slice-read-w Inv-loop μ-loop
 shared-slice-read-w c = search needs
 
 cast-w : tie.Need-cast-w Inv-loop μ-loop
-cast-w c = omega (arith, turn-small (from-loop (from-own (from-test (c .before))) .pre .named) _ (c .before .if1 .taken))
+cast-w c = omega (arith, from-loop (from-own (from-test (c .before))) .pre .named .below _ (c .before .if1 .taken))
 
 sync-requires : tie.Need-sync-requires Inv-loop μ-loop
 sync-requires c κs =
@@ -65,7 +72,7 @@ sync-requires c κs =
     let l = from-own o in
     let p = from-loop l .pre in
     let w = o .play-own .ensures in
-    syncing p (went-on p (lent l) (l .loop .fates) (l .loop .log) (l .loop .inv) w) (u .if1 .taken) (w .stopped (u .if1 .taken) (l .loop .fates) (l .loop .log))
+    syncing p (went-on p (lent l) (l .loop .fates) (l .loop .log) (l .loop .inv .so) w) (u .if1 .taken) (w .stopped (u .if1 .taken) (l .loop .fates) (l .loop .log))
 
 add-i : tie.Need-add-i Inv-loop μ-loop
 add-i c =
@@ -81,7 +88,7 @@ same-length c =
     let u = from-sync s in
     let l = from-own (from-test u) in
     let p = from-loop l .pre in
-    stands-on p (lent l) (l .loop .fates) (l .loop .log) (l .loop .inv) (from-test u .play-own .ensures) (u .if1 .taken) (s .sync .ensures) .refines .bytes .sizes .memoryLength
+    stands-on p (lent l) (l .loop .fates) (l .loop .log) (l .loop .inv .so) (from-test u .play-own .ensures) (u .if1 .taken) (s .sync .ensures) .refines .bytes .sizes .memoryLength
     ∙ sym (p .bytes .memoryLength)
 
 same-length-2 : tie.Need-same-length-2 Inv-loop μ-loop
@@ -90,7 +97,7 @@ same-length-2 c =
     let u = from-sync s in
     let l = from-own (from-test u) in
     let p = from-loop l .pre in
-    stands-on p (lent l) (l .loop .fates) (l .loop .log) (l .loop .inv) (from-test u .play-own .ensures) (u .if1 .taken) (s .sync .ensures) .refines .log .size
+    stands-on p (lent l) (l .loop .fates) (l .loop .log) (l .loop .inv .so) (from-test u .play-own .ensures) (u .if1 .taken) (s .sync .ensures) .refines .log .size
     ∙ sym (p .room)
 
 same-length-3 : tie.Need-same-length-3 Inv-loop μ-loop
@@ -99,7 +106,7 @@ same-length-3 c =
     let u = from-sync s in
     let l = from-own (from-test u) in
     let p = from-loop l .pre in
-    stands-on p (lent l) (l .loop .fates) (l .loop .log) (l .loop .inv) (from-test u .play-own .ensures) (u .if1 .taken) (s .sync .ensures) .refines .bytes .sizes .workLength
+    stands-on p (lent l) (l .loop .fates) (l .loop .log) (l .loop .inv .so) (from-test u .play-own .ensures) (u .if1 .taken) (s .sync .ensures) .refines .bytes .sizes .workLength
     ∙ sym (p .bytes .workLength)
 
 returns : tie.Need-returns Inv-loop μ-loop
@@ -109,43 +116,77 @@ returns c =
     let l = from-own (from-test u) in
     let p = from-loop l .pre in
     ends-here p
-    (stands-on p (lent l) (l .loop .fates) (l .loop .log) (l .loop .inv) (from-test u .play-own .ensures) (u .if1 .taken) (s .sync .ensures))
+    (stands-on p (lent l) (l .loop .fates) (l .loop .log) (l .loop .inv .so) (from-test u .play-own .ensures) (u .if1 .taken) (s .sync .ensures))
     (c .before .is-empty .ensures) (c .if2 .taken)
+
+onward-requires-2 : tie.Need-onward-requires-2 Inv-loop μ-loop
+onward-requires-2 c κs = search needs
 
 loop-less : tie.Need-loop-less Inv-loop μ-loop
 loop-less c =
-    let u = from-sync (from-empty (c .before)) in
-    omega (arith, u .if1 .taken, from-test u .play-own .ensures .forward)
+    let s = from-empty (c .before .before .before) in
+    let u = from-sync s in
+    let o = from-test u in
+    let l = from-own o in
+    let p = from-loop l .pre in
+    let so = l .loop .inv .so in
+    let on = o .play-own .ensures in
+    falls _ {left = length (from-loop l .args .turns .now) - l .loop .i} {left′ = length (from-loop l .args .turns .now) - c .onward2 .result}
+    (λ e. (
+      rises-on p (lent l) (l .loop .fates) (l .loop .log) so on (u .if1 .taken) (s .sync .ensures),
+      few-moves p (stands-on p (lent l) (l .loop .fates) (l .loop .log) so on (u .if1 .taken) (s .sync .ensures)),
+    ))
+    (λ e. omega (arith, u .if1 .taken, on .forward, c .onward2 .ensures .listed e))
 
 loop-again : tie.Need-loop-again Inv-loop μ-loop
 loop-again c =
-    let s = from-empty (c .before) in
+    let s = from-empty (c .before .before .before) in
     let u = from-sync s in
     let l = from-own (from-test u) in
-    stands-on (from-loop l .pre) (lent l) (l .loop .fates) (l .loop .log) (l .loop .inv) (from-test u .play-own .ensures) (u .if1 .taken) (s .sync .ensures)
+    let p = from-loop l .pre in
+    goes-on p
+    (stands-on p (lent l) (l .loop .fates) (l .loop .log) (l .loop .inv .so) (from-test u .play-own .ensures) (u .if1 .taken) (s .sync .ensures))
+    (c .onward2 .ensures)
+
+onward-requires-3 : tie.Need-onward-requires-3 Inv-loop μ-loop
+onward-requires-3 c κs = search needs
 
 loop-less-2 : tie.Need-loop-less-2 Inv-loop μ-loop
 loop-less-2 c =
-    let o = c .before .before .before .before in
-    omega (arith, o .before .before .before .before .before .before .before .before .loop-test .taken, c .if1 .left)
+    let e1 = c .before .before in
+    let o = e1 .before .before .before .before in
+    let l = from-own o in
+    let p = from-loop l .pre in
+    let so = l .loop .inv .so in
+    let on = o .play-own .ensures in
+    let here = o .before .before .before .before .before .before .before .before .loop-test .taken in
+    falls _ {left = length (from-loop l .args .turns .now) - l .loop .i} {left′ = length (from-loop l .args .turns .now) - c .onward3 .result}
+    (λ e. (
+      one-at-least p (lent l) (l .loop .fates) (l .loop .log) so on (omega (arith, here, e1 .if1 .left)) (l .loop .inv .picked e .moves here),
+      few-moves p (went-on p (lent l) (l .loop .fates) (l .loop .log) so on),
+    ))
+    (λ e. omega (arith, here, e1 .if1 .left, c .onward3 .ensures .listed e))
 
 loop-again-2 : tie.Need-loop-again-2 Inv-loop μ-loop
 loop-again-2 c =
-    let o = c .before .before .before .before in
+    let o = c .before .before .before .before .before .before in
     let l = from-own o in
-    went-on (from-loop l .pre) (lent l) (l .loop .fates) (l .loop .log) (l .loop .inv) (o .play-own .ensures)
+    let p = from-loop l .pre in
+    goes-on p (went-on p (lent l) (l .loop .fates) (l .loop .log) (l .loop .inv .so) (o .play-own .ensures)) (c .onward3 .ensures)
 
 same-length-4 : tie.Need-same-length-4 Inv-loop μ-loop
-same-length-4 c = search needs
+same-length-4 c =
+    c .before .loop .inv .so .refines .bytes .sizes .memoryLength ∙ sym (from-loop (c .before) .pre .bytes .memoryLength)
 
 same-length-5 : tie.Need-same-length-5 Inv-loop μ-loop
-same-length-5 c = search needs
+same-length-5 c = c .before .loop .inv .so .refines .log .size ∙ sym (from-loop (c .before) .pre .room)
 
 same-length-6 : tie.Need-same-length-6 Inv-loop μ-loop
-same-length-6 c = search needs
+same-length-6 c =
+    c .before .loop .inv .so .refines .bytes .sizes .workLength ∙ sym (from-loop (c .before) .pre .bytes .workLength)
 
 returns-2 : tie.Need-returns-2 Inv-loop μ-loop
-returns-2 c = all-played (from-loop (c .before) .pre) (c .before .loop .inv) (omega (arith, c .loop-test .left))
+returns-2 c = all-played (from-loop (c .before) .pre) (c .before .loop .inv .so) (omega (arith, c .loop-test .left)) (c .before .loop .inv .picked)
 
 pub play-spec : {M : Type 1} → statement M
 play-spec =
@@ -154,6 +195,7 @@ play-spec =
     Inv-loop
     μ-loop
     first-round-requires
+    onward-requires
     loop-holds
     play-own-requires
     shared-slice-read-w
@@ -165,8 +207,10 @@ play-spec =
     same-length-2
     same-length-3
     returns
+    onward-requires-2
     loop-less
     loop-again
+    onward-requires-3
     loop-less-2
     loop-again-2
     same-length-4

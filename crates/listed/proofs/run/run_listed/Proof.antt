@@ -2,10 +2,11 @@
 use borrow.Author.Needs.{needs}
 use native.Mathlib.Omega.{arith}
 use mathlib.Core.Path.{refl, sym, ap, _∙_}
+use Prim.Native.Nat.{ℕ}
+use lib.ListN.{length, length-replicate}
 use lib.Seq.{length-take-le}
-use Rattle.protocol.specs.Refusals.{Verdict}
-use Rattle.listed.specs.Listed.{turnsBy}
-use Rattle.listed.proofs.Ended.{few-taken, ran-to-end}
+use Rattle.protocol.specs.Calls.{memoryLength}
+use Rattle.listed.proofs.Ended.{ran-to-end}
 use Rattle.listed.proofs.run.run_listed.Statement.{statement}
 use Rattle.listed.proofs.run.run_listed.Tie as tie
 
@@ -47,11 +48,8 @@ returns c =
     ran-to-end _ _ _ _ _ (ran .tampermauve-run .ensures)
     (record {
       zeros = lent .0;
-      log = lent .1 .0;
-      report = lent .1 .1;
-      work = refl;
-      few = few-taken _ _ (turns .1 .0);
-      full = λ q. turns .1 .1 ∙ ap (λ (v : Verdict). turnsBy v (wrote .before .before .before .before .before .before .args .file .now)) q;
+      fits = record { memory = ap length (lent .0) ∙ length-replicate {A = ℕ} memoryLength 0; log = lent .1 .0; report = lent .1 .1; work = refl };
+      full = turns .1 .1;
     })
 
 pub run-listed-spec : {M : Type 1} → statement M

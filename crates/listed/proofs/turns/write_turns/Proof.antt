@@ -3,8 +3,8 @@ use borrow.Author.Needs.{needs}
 use native.Mathlib.Omega.{arith}
 use mathlib.Core.Path.{ap, _∙_, sym}
 use Rattle.protocol.specs.Refusals.{Verdict}
+use Rattle.protocol.specs.Listing.{turnsBy}
 use Rattle.plan.specs.Answer.{verdictOf}
-use Rattle.listed.specs.Listed.{turnsBy}
 use Rattle.listed.proofs.Turning.{Measured, measured, all-listed}
 use Rattle.listed.proofs.turns.write_turns.Statement.{statement}
 use Rattle.listed.proofs.turns.write_turns.Tie as tie

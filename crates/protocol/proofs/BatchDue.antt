@@ -1,0 +1,99 @@
+-- Many plans in one call: the verdict is that of the first test that is due, and one that is accepted is lent evenly.
+use Prim.Native.Nat.{ℕ, _*_, _≤_}
+use mathlib.Core.Bool.{Bool, false, not, _||_, false≢true}
+use mathlib.Core.Path.{_≡_, sym, _∙_}
+use mathlib.Core.List.{List, []}
+use lib.Dec.{ltb, eqb}
+use lib.ListN.{length}
+use borrow.Author.Tests.{ltb-false, le-ltb, eqb-false, not-true, eq-eqb}
+use Rattle.protocol.specs.Refusals.{badBuffer, badBatch, accepted, holds, refuseIf, outside}
+use Rattle.protocol.specs.Calls.{memoryLength, logLength, reportLength, workLength}
+use Rattle.protocol.specs.Batch.{Batch, plansLimit, lengthBytes, beginsAt, unevenBy, uneven, batchVerdict}
+use Rattle.protocol.specs.WellFormed.{EvenlyLent}
+use Rattle.protocol.specs.Conditions.{batchTests, FirstDue}
+use Rattle.protocol.proofs.Bools.{or-left, or-right}
+use Rattle.protocol.proofs.Covered.{nothing-due, covers-none, covers}
+use Rattle.protocol.proofs.FirstDue.{same-length}
+
+-- what the lengths of the buffers come to
+pub record EvenBy (count lengths memories logs reports answers : ℕ) : Type 0 where
+  pub least : 1 ≤ count
+  pub most : count ≤ plansLimit
+  pub lengthsFit : lengths ≡ lengthBytes * count
+  pub memoriesFit : memories ≡ memoryLength * count
+  pub logsFit : logs ≡ logLength * count
+  pub reportsFit : reports ≡ reportLength * count
+  pub answersFit : answers ≡ count
+
+module _ (count lengths memories logs reports answers : ℕ) where
+  -- the test, part by part
+  abbrev byCount : Bool
+  byCount = outside 1 plansLimit count
+
+  abbrev byLengths : Bool
+  byLengths = byCount || not (eqb lengths (lengthBytes * count))
+
+  abbrev byMemories : Bool
+  byMemories = byLengths || not (eqb memories (memoryLength * count))
+
+  abbrev byLogs : Bool
+  byLogs = byMemories || not (eqb logs (logLength * count))
+
+  abbrev byReports : Bool
+  byReports = byLogs || not (eqb reports (reportLength * count))
+
+  pub even-by : unevenBy count lengths memories logs reports answers ≡ false → EvenBy count lengths memories logs reports answers
+  even-by e =
+      let reported = or-left byReports _ e in
+      let logged = or-left byLogs _ reported in
+      let remembered = or-left byMemories _ logged in
+      let long = or-left byLengths _ remembered in
+      let within = or-left byCount _ long in
+      record {
+        least = ltb-false count 1 (or-left (ltb count 1) _ within);
+        most = ltb-false plansLimit count (or-right (ltb count 1) within);
+        lengthsFit = same-length _ _ (or-right byCount long);
+        memoriesFit = same-length _ _ (or-right byLengths remembered);
+        logsFit = same-length _ _ (or-right byMemories logged);
+        reportsFit = same-length _ _ (or-right byLogs reported);
+        answersFit = same-length _ _ (or-right byReports e);
+      }
+
+  pub by-even : EvenBy count lengths memories logs reports answers → unevenBy count lengths memories logs reports answers ≡ false
+  by-even f =
+      simp (le-ltb count 1 (f .least), le-ltb plansLimit count (f .most), eq-eqb _ _ (f .lengthsFit), eq-eqb _ _ (f .memoriesFit), eq-eqb _ _ (f .logsFit), eq-eqb _ _ (f .reportsFit), eq-eqb _ _ (f .answersFit))
+
+module _ (count : ℕ) (files lengths : List ℕ) (b : Batch) where
+  abbrev amiss : Bool
+  amiss = uneven count lengths b || not (eqb (beginsAt lengths count) (length files))
+
+  pub evenly-lent : amiss ≡ false → EvenlyLent count files lengths b
+  evenly-lent e =
+      let f = even-by _ _ _ _ _ _ (or-left (uneven count lengths b) _ e) in
+      record {
+        least = f .least;
+        most = f .most;
+        lengthsFit = f .lengthsFit;
+        memoriesFit = f .memoriesFit;
+        logsFit = f .logsFit;
+        reportsFit = f .reportsFit;
+        answersFit = f .answersFit;
+        sum = same-length _ _ (or-right (uneven count lengths b) e);
+      }
+
+  not-amiss : EvenlyLent count files lengths b → amiss ≡ false
+  not-amiss f =
+      simp (
+        by-even count (length lengths) (length (b .memories)) (length (b .logs)) (length (b .reports)) (length (b .answers))
+            (record { least = f .least; most = f .most; lengthsFit = f .lengthsFit; memoriesFit = f .memoriesFit; logsFit = f .logsFit; reportsFit = f .reportsFit; answersFit = f .answersFit }),
+        eq-eqb _ _ (f .sum),
+      )
+
+  -- The verdict on such a call is that of its first test that is due.
+  pub batch-first : FirstDue (batchTests count files lengths b) (batchVerdict count files lengths b)
+  unfolding batchVerdict
+  batch-first =
+      covers (not (eqb (length (b .work)) workLength)) badBuffer (refuseIf amiss badBatch holds) {c = length (b .work) ≡ workLength → ⊥}
+      (λ e same. eqb-false (length (b .work)) workLength (not-true _ e) same)
+      (λ e other. other (same-length _ _ e))
+      (λ e. covers amiss badBatch holds {c = EvenlyLent count files lengths b → ⊥} (λ f even. false≢true (sym (not-amiss even) ∙ f)) (λ f other. other (evenly-lent f)) (λ f. covers-none 0)) .decides [] accepted nothing-due

@@ -1,0 +1,65 @@
+-- Many plans in one call: what it is admitted by, what one plan of it takes and leaves, and what the call ensures.
+use Prim.Native.Nat.{ℕ, _*_, _/_, _<_}
+use mathlib.Core.Bool.{Bool, true, false, not}
+use mathlib.Core.Path.{_≡_}
+use mathlib.Core.List.{List}
+use lib.Dec.{eqb}
+use lib.ListN.{length, getD, replicate}
+use Rattle.protocol.specs.Format.{workersLimit}
+use Rattle.protocol.specs.Refusals.{codeOf}
+use Rattle.protocol.specs.Calls.{Buffers, workLength}
+use Rattle.protocol.specs.Batch.{Batch, BatchReply, beginsAt, unevenBy, batchBy, answerOf, separate, runPlans, runAll}
+use Rattle.protocol.specs.Demands.{EachToItsEnd}
+use Rattle.engine.specs.Turning.{stretch}
+use Rattle.tampermauve.specs.declared.batch.BatchLengths.{BatchLengths}
+
+abbrev pub batch : List ℕ → List ℕ → List ℕ → List ℕ → List ℕ → Batch
+batch memories logs reports answers work =
+    record { memories = memories; logs = logs; reports = reports; answers = answers; work = work }
+
+abbrev pub sizesOf : List ℕ → List ℕ → Batch → BatchLengths
+sizesOf files lengths b =
+    record {
+      files = length files;
+      lengths = length lengths;
+      memories = length (b .memories);
+      logs = length (b .logs);
+      reports = length (b .reports);
+      answers = length (b .answers);
+      work = length (b .work);
+    }
+
+abbrev pub unevenly : ℕ → BatchLengths → Bool
+unevenly count l = unevenBy count (l .lengths) (l .memories) (l .logs) (l .reports) (l .answers)
+
+-- the number for C, by the lengths
+abbrev pub batchCode : ℕ → List ℕ → BatchLengths → ℕ
+batchCode count lengths l =
+    codeOf (batchBy (not (eqb (l .work) workLength)) (unevenly count l) (not (eqb (beginsAt lengths count) (l .files))))
+
+-- the turns that each plan is run with: a stretch of them for each worker
+pub record Stretched (turns : List ℕ) : Type 0 where
+  pub size : length turns ≡ stretch * workersLimit
+  pub each : (i : ℕ) → i < length turns → getD turns i 0 ≡ i / stretch
+
+-- what one plan leaves is what its separate call leaves, but for work, which a refused one does not touch
+pub record RanAlone (file : List ℕ) (before : Buffers) (answer : ℕ) (memory log report work : List ℕ) : Type 0 where
+  pub answered : answer ≡ answerOf (separate file before .returned)
+  pub sameMemory : memory ≡ separate file before .buffers .memory
+  pub sameLog : log ≡ separate file before .buffers .log
+  pub sameReport : report ≡ separate file before .buffers .report
+  pub untouched : (answer ≡ 0 → ⊥) → work ≡ before .work
+
+-- what the first k plans leave is what their separate calls leave, but for work, which is to be cleared if one of them was accepted
+pub record RanPlans (files lengths : List ℕ) (k : ℕ) (before : Batch) (accepted : Bool) (after : Batch) : Type 0 where
+  pub memories : after .memories ≡ runPlans files lengths k before .memories
+  pub logs : after .logs ≡ runPlans files lengths k before .logs
+  pub reports : after .reports ≡ runPlans files lengths k before .reports
+  pub answers : after .answers ≡ runPlans files lengths k before .answers
+  pub cleared : accepted ≡ true → runPlans files lengths k before .work ≡ replicate workLength 0
+  pub lent : accepted ≡ false → (runPlans files lengths k before .work ≡ before .work) × (after .work ≡ before .work)
+
+-- what is returned and left is what the definition gives; and each accepted plan has been run to its end
+pub record RanAll (count : ℕ) (files lengths : List ℕ) (before : Batch) (r : ℕ) (after : Batch) : Type 0 where
+  pub same : _≡_ {A = BatchReply} (record { returned = r; batch = after }) (runAll count files lengths before)
+  pub ends : r ≡ 0 → EachToItsEnd count files lengths before after
