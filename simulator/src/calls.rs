@@ -1,8 +1,9 @@
-//! The two calls on byte buffers.
+//! The calls on byte buffers that take one plan.
 
 use crate::check::{check, Plan, Refusal};
 use crate::counts::Counts;
 use crate::format::{LOG_LENGTH, MEMORY_LENGTH, MOST_TURNS, REPORT_LENGTH, WORK_LENGTH};
+use crate::outcome::Outcome;
 use crate::turn_machine::play_counted;
 
 /// Checks a file: 0, or refusal + 256 × index.
@@ -36,15 +37,20 @@ pub fn run_counted(file: &[u8], turns: &[u8], lent: [&mut [u8]; 4]) -> (u32, Cou
         Ok(plan) => plan,
         Err(refusal) => return (refusal.code(), Counts::default()),
     };
+    let (outcome, counts) = play_counted(&plan, lent[0], turns);
+    leave(&outcome, lent);
+    (0, counts)
+}
+
+/// Fills memory, log, report and work after an accepted run.
+pub(crate) fn leave(outcome: &Outcome, lent: [&mut [u8]; 4]) {
     let [memory, log, report, work] = lent;
-    let (outcome, counts) = play_counted(&plan, memory, turns);
-    let records = outcome.log;
+    let (records, rest) = log.split_at_mut(outcome.log.len());
     memory.copy_from_slice(&outcome.memory);
-    log.fill(0);
-    log[..records.len()].copy_from_slice(&records);
+    records.copy_from_slice(&outcome.log);
+    rest.fill(0);
     report.copy_from_slice(&outcome.report);
     work.fill(0);
-    (0, counts)
 }
 
 /// Tests 11, 12, the file and 13, in this order. Every turn of the list is

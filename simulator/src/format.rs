@@ -16,6 +16,11 @@ pub const MOST_STEPS: usize = 128;
 /// A longer turn list is refused.
 pub const MOST_TURNS: usize = 65_535;
 
+/// Most plans of one call that runs several.
+pub const MOST_PLANS: usize = 40;
+/// Bytes of a file's length in such a call.
+pub const LENGTH_BYTES: usize = 4;
+
 /// Length of the lent memory.
 pub const MEMORY_LENGTH: usize = 2_048;
 /// Length of the lent log.

@@ -6,6 +6,7 @@
 //! their state in different structures on purpose, so that a slip in one of
 //! them shows as a difference between the two.
 
+pub mod batch;
 pub mod calls;
 pub mod check;
 pub mod counts;
@@ -16,6 +17,7 @@ pub mod outcome;
 pub mod round_run;
 pub mod turn_machine;
 
+pub use batch::run_all;
 pub use calls::{check_code, run, run_counted};
 pub use check::{check, Plan, Refusal, Step};
 pub use counts::Counts;

@@ -3,6 +3,7 @@
 //! Everything here is settled by the seed alone, so a test that finds a
 //! difference can name the seed and find it again.
 
+pub mod batches;
 pub mod broadcasts;
 pub mod buffers;
 pub mod damage;
@@ -19,6 +20,7 @@ pub mod starts;
 pub mod sums;
 pub mod turns;
 
+pub use batches::{Batch, BatchKind, Batches};
 pub use damage::{damaged_files, showcase, Damaged};
 pub use draft::Draft;
 pub use plans::{plan, PlanKind};
