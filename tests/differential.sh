@@ -3,9 +3,9 @@
 #
 # tests/differential.sh library|check|twin [--seed N] [--count N] [--seconds N]
 #
-# `library` holds the library's check and run against the simulator, `check`
-# its check alone, `twin` the engine of bench/twin.c. The library is
-# libtampermauve.a of the folder TAMPERMAUVE_LIB (default target/staticlib).
+# `library` holds the library's check, run and run of several plans against the
+# simulator, `check` its check alone, `twin` the engine of bench/twin.c. The
+# library is libtampermauve.a of the folder TAMPERMAUVE_LIB (default target/staticlib).
 set -eu
 cd "$(dirname "$0")/.."
 what=${1:-library}

@@ -59,14 +59,14 @@ impl Verdict {
 }
 
 /// A buffer between guard bytes, at any alignment.
-struct Guarded {
+pub struct Guarded {
     bytes: Vec<u8>,
     start: usize,
     length: usize,
 }
 
 impl Guarded {
-    fn new(content: &[u8], shift: usize) -> Self {
+    pub fn new(content: &[u8], shift: usize) -> Self {
         let start = GUARD + shift;
         let mut bytes = vec![GUARD_BYTE; start + content.len() + GUARD];
         bytes[start..start + content.len()].copy_from_slice(content);
@@ -77,14 +77,14 @@ impl Guarded {
         }
     }
 
-    fn told(&mut self) -> Told {
+    pub fn told(&mut self) -> Told {
         Told {
             start: self.bytes[self.start..].as_mut_ptr(),
             length: self.length,
         }
     }
 
-    fn differs(&self, buffer: &'static str, content: &[u8]) -> Option<Difference> {
+    pub fn differs(&self, buffer: &'static str, content: &[u8]) -> Option<Difference> {
         let wanted = Guarded::new(content, self.start - GUARD);
         if self.bytes == wanted.bytes {
             return None;
@@ -155,7 +155,7 @@ pub fn compare_check(engine: &Engine, file: &[u8], shift: usize) -> (u32, Option
     (expected, difference)
 }
 
-fn answer_differs(expected: u32, got: u32) -> Option<Difference> {
+pub fn answer_differs(expected: u32, got: u32) -> Option<Difference> {
     (expected != got).then_some(Difference::Answer { expected, got })
 }
 

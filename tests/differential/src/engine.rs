@@ -1,4 +1,4 @@
-//! The engine under test, behind its two C calls.
+//! The engine under test, behind its C calls.
 
 use std::ffi::{c_char, c_int, c_void, CString};
 
@@ -7,6 +7,23 @@ type RunCall = unsafe extern "C" fn(
     *const u8,
     usize,
     *const u8,
+    usize,
+    *mut u8,
+    usize,
+    *mut u8,
+    usize,
+    *mut u8,
+    usize,
+    *mut u8,
+    usize,
+) -> u32;
+type RunAllCall = unsafe extern "C" fn(
+    usize,
+    *const u8,
+    usize,
+    *const u8,
+    usize,
+    *mut u8,
     usize,
     *mut u8,
     usize,
@@ -34,6 +51,23 @@ extern "C" {
         work: *mut u8,
         work_len: usize,
     ) -> u32;
+    fn twin_run_all(
+        count: usize,
+        files: *const u8,
+        files_len: usize,
+        lengths: *const u8,
+        lengths_len: usize,
+        memories: *mut u8,
+        memories_len: usize,
+        logs: *mut u8,
+        logs_len: usize,
+        reports: *mut u8,
+        reports_len: usize,
+        answers: *mut u8,
+        answers_len: usize,
+        work: *mut u8,
+        work_len: usize,
+    ) -> u32;
 }
 
 #[cfg(feature = "check")]
@@ -57,6 +91,23 @@ extern "C" {
         work: *mut u8,
         work_len: usize,
     ) -> u32;
+    fn tampermauve_run_all(
+        count: usize,
+        files: *const u8,
+        files_len: usize,
+        lengths: *const u8,
+        lengths_len: usize,
+        memories: *mut u8,
+        memories_len: usize,
+        logs: *mut u8,
+        logs_len: usize,
+        reports: *mut u8,
+        reports_len: usize,
+        answers: *mut u8,
+        answers_len: usize,
+        work: *mut u8,
+        work_len: usize,
+    ) -> u32;
 }
 
 extern "C" {
@@ -73,11 +124,18 @@ pub struct Told {
     pub length: usize,
 }
 
-/// An engine's two calls. An engine without a run is tested by its check.
+/// The calls that run plans.
+#[derive(Clone, Copy)]
+struct Runs {
+    one: RunCall,
+    all: RunAllCall,
+}
+
+/// An engine's calls. An engine without runs is tested by its check.
 #[derive(Clone, Copy)]
 pub struct Engine {
     check: CheckCall,
-    run: Option<RunCall>,
+    runs: Option<Runs>,
 }
 
 impl Engine {
@@ -86,7 +144,10 @@ impl Engine {
         match name {
             "twin" => Ok(Engine {
                 check: twin_check,
-                run: Some(twin_run),
+                runs: Some(Runs {
+                    one: twin_run,
+                    all: twin_run_all,
+                }),
             }),
             "library" => library(),
             path => from_object(path),
@@ -94,7 +155,7 @@ impl Engine {
     }
 
     pub fn can_run(&self) -> bool {
-        self.run.is_some()
+        self.runs.is_some()
     }
 
     /// Checks a file.
@@ -106,10 +167,10 @@ impl Engine {
 
     /// Runs a file over turns, on memory, log, report and work.
     pub fn run(&self, file: Told, turns: Told, lent: [Told; 4]) -> u32 {
-        let run = self.run.expect("an engine with a run");
+        let runs = self.runs.expect("an engine with runs");
         let [memory, log, report, work] = lent;
         unsafe {
-            run(
+            (runs.one)(
                 file.start,
                 file.length,
                 turns.start,
@@ -125,13 +186,41 @@ impl Engine {
             )
         }
     }
+
+    /// Runs so many plans, on memories, logs, reports, answers and work.
+    pub fn run_all(&self, count: usize, files: Told, lengths: Told, lent: [Told; 5]) -> u32 {
+        let runs = self.runs.expect("an engine with runs");
+        let [memories, logs, reports, answers, work] = lent;
+        unsafe {
+            (runs.all)(
+                count,
+                files.start,
+                files.length,
+                lengths.start,
+                lengths.length,
+                memories.start,
+                memories.length,
+                logs.start,
+                logs.length,
+                reports.start,
+                reports.length,
+                answers.start,
+                answers.length,
+                work.start,
+                work.length,
+            )
+        }
+    }
 }
 
 #[cfg(feature = "library")]
 fn library() -> Result<Engine, String> {
     Ok(Engine {
         check: tampermauve_check,
-        run: Some(tampermauve_run),
+        runs: Some(Runs {
+            one: tampermauve_run,
+            all: tampermauve_run_all,
+        }),
     })
 }
 
@@ -139,7 +228,7 @@ fn library() -> Result<Engine, String> {
 fn library() -> Result<Engine, String> {
     Ok(Engine {
         check: tampermauve_check,
-        run: None,
+        runs: None,
     })
 }
 
@@ -155,12 +244,16 @@ fn from_object(path: &str) -> Result<Engine, String> {
         return Err(format!("{path} is no engine and cannot be loaded"));
     }
     let check = symbol(handle, c"twin_check")?;
-    let run = symbol(handle, c"twin_run")?;
-    // The object is compiled from bench/twin.h, which gives both types.
+    let one = symbol(handle, c"twin_run")?;
+    let all = symbol(handle, c"twin_run_all")?;
+    // The object is compiled from bench/twin.h, which gives the types.
     unsafe {
         Ok(Engine {
             check: std::mem::transmute::<*mut c_void, CheckCall>(check),
-            run: Some(std::mem::transmute::<*mut c_void, RunCall>(run)),
+            runs: Some(Runs {
+                one: std::mem::transmute::<*mut c_void, RunCall>(one),
+                all: std::mem::transmute::<*mut c_void, RunAllCall>(all),
+            }),
         })
     }
 }

@@ -1,6 +1,7 @@
 //! Plans and turn lists at each limit of the paper, always run before the
 //! random calls. Chance seldom or never goes so far.
 
+pub mod batches;
 mod broadcasts;
 mod depths;
 mod full_lists;

@@ -7,8 +7,10 @@
 //! ends with 1 at the first difference, and also if a long enough run left a
 //! rule or a limit untried.
 
+mod batch;
 mod call;
 mod engine;
+mod explain;
 mod limits;
 mod shrink;
 mod tally;
@@ -18,14 +20,17 @@ mod tiny;
 use std::process::ExitCode;
 use std::time::{Duration, Instant};
 
-use simulator::generate::Scenarios;
+use simulator::generate::{Batches, Scenarios};
 
-use call::{compare_check, compare_run, Call};
 use engine::Engine;
+use explain::explain;
 use test::{Failure, Test};
 
 /// From so many random calls on, no row of the tally may be zero.
 const TELLING: u64 = 3_000;
+
+/// Among so many random calls one of several plans comes as well.
+const CALLS_TO_A_BATCH: u64 = 20;
 
 struct Options {
     engine: String,
@@ -87,18 +92,23 @@ fn options(mut words: impl Iterator<Item = String>) -> Result<Options, String> {
 /// Plays all parts and gives the count of random calls.
 fn play(test: &mut Test, options: &Options) -> Result<u64, Box<Failure>> {
     test.limits()?;
+    test.batches()?;
     test.damaged()?;
     test.lengths()?;
     test.vast()?;
     test.tiny()?;
-    let source = Scenarios::new();
+    let (source, batches) = (Scenarios::new(), Batches::new());
     let start = Instant::now();
     let mut told = start;
     let mut done = 0;
     // Seeds of two runs lie far apart, so that their calls differ.
     let first = options.seed.wrapping_mul(1 << 40);
     while more(options, done, start) {
-        test.random(&source, first.wrapping_add(done))?;
+        let seed = first.wrapping_add(done);
+        test.random(&source, seed)?;
+        if done % CALLS_TO_A_BATCH == 0 {
+            test.random_batch(&batches, seed)?;
+        }
         done += 1;
         if told.elapsed() > Duration::from_secs(20) {
             told = Instant::now();
@@ -118,59 +128,13 @@ fn more(options: &Options, done: u64, start: Instant) -> bool {
 fn conclude(test: &Test, options: &Options, random: u64) -> ExitCode {
     let zero = test.tally.print(test.engine.can_run());
     println!(
-        "no difference: engine {}, seed {}, {random} random calls, {} runs and {} checks in all",
-        options.engine, options.seed, test.tally.runs, test.tally.checks
+        "no difference: engine {}, seed {}, {random} random calls, \
+         {} runs, {} checks and {} batches in all",
+        options.engine, options.seed, test.tally.runs, test.tally.checks, test.tally.batches
     );
     if random >= TELLING && !zero.is_empty() {
         println!("never came up: {}", zero.join("; "));
         return ExitCode::FAILURE;
     }
     ExitCode::SUCCESS
-}
-
-/// Prints the failing call, cut down to a small one.
-fn explain(test: &Test, failure: &Failure) {
-    let differs = |call: &Call| match failure.by_check {
-        true => compare_check(&test.engine, &call.file, 0).1,
-        false => compare_run(&test.engine, call, 0).1,
-    };
-    println!("difference ({}): {:?}", failure.label, failure.difference);
-    if differs(&failure.call).is_none() {
-        println!("it does not show again without its lengths or its alignment");
-        return print_call(&failure.call);
-    }
-    let small = shrink::shrink(&failure.call, &|call| differs(call).is_some());
-    println!("a small call with a difference:");
-    print_call(&small);
-    let by = if failure.by_check { "check" } else { "run" };
-    println!("{by}: {:?}", differs(&small));
-}
-
-fn print_call(call: &Call) {
-    println!("file, {} bytes:", call.file.len());
-    for record in call.file.chunks(7) {
-        println!("  {}", hex(record));
-    }
-    println!("turns, {}: {}", call.turns.len(), runs(&call.turns));
-    let lengths = call.lent.each_ref().map(Vec::len);
-    println!("lengths of memory, log, report, work: {lengths:?}");
-    let memory = call.lent[0].iter().enumerate();
-    for (address, byte) in memory.filter(|(_, byte)| **byte != 0).take(32) {
-        println!("memory at {address}: {byte:02x}");
-    }
-}
-
-/// Each turn, and how often it comes on end where it does so.
-fn runs(turns: &[u8]) -> String {
-    let each = |run: &[u8]| match run.len() {
-        1 => run[0].to_string(),
-        length => format!("{}*{length}", run[0]),
-    };
-    let runs: Vec<String> = turns.chunk_by(|a, b| a == b).map(each).collect();
-    runs.join(" ")
-}
-
-fn hex(bytes: &[u8]) -> String {
-    let two: Vec<String> = bytes.iter().map(|byte| format!("{byte:02x}")).collect();
-    two.join(" ")
 }

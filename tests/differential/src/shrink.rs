@@ -1,8 +1,11 @@
 //! Cutting a failing call down to a small one that still fails.
 
+mod batches;
+
 use simulator::format::{OP_BARRIER_SIZE, OP_START};
 
 use crate::call::Call;
+pub use batches::shrink_batch;
 
 /// Shrinking ends after so much work, a try being as much work as it has
 /// turns and a fixed part, which is that of its buffers.

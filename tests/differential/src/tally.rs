@@ -1,6 +1,7 @@
 //! How often each rule came up. A rule that never did was not tested.
 
 mod answers;
+mod batches;
 mod limits;
 mod logs;
 mod operands;
@@ -10,10 +11,12 @@ mod reports;
 mod sleepers;
 
 use simulator::format::{LOG_RECORD_LENGTH, REPORT_FATES, REPORT_SUM};
-use simulator::generate::{ListKind, PlanKind, TurnKind};
+use simulator::generate::{Batch, BatchKind, ListKind, PlanKind, TurnKind};
 use simulator::Counts;
 
+use crate::batch::BatchVerdict;
 use crate::call::{Call, Verdict};
+pub use batches::Beyond;
 use limits::Limits;
 pub use reports::SUMS;
 use sleepers::Share;
@@ -63,6 +66,7 @@ const FATES: [&str; 6] = [
 pub struct Tally {
     pub runs: u64,
     pub checks: u64,
+    pub batches: u64,
     tried: Counts,
     outcomes: [u64; OUTCOMES.len()],
     ends: [u64; ENDS.len()],
@@ -71,6 +75,8 @@ pub struct Tally {
     check_answers: [u64; 15],
     lists: [u64; TurnKind::ALL.len() + 4],
     plans: [u64; PlanKind::ALL.len()],
+    batch_kinds: [u64; BatchKind::ALL.len()],
+    separate: u64,
     late_rounds: u64,
     rounds: u64,
     vast: u64,
@@ -131,6 +137,28 @@ impl Tally {
         self.plans[place.expect("a kind of plan")] += 1;
     }
 
+    /// A call of several plans.
+    pub fn batch(&mut self, batch: &Batch, verdict: &BatchVerdict) {
+        self.batches += 1;
+        self.limits.batch(batch, verdict);
+    }
+
+    /// The kind of a random call of several plans.
+    pub fn batch_kind(&mut self, kind: BatchKind) {
+        let place = BatchKind::ALL.iter().position(|&each| each == kind);
+        self.batch_kinds[place.expect("a kind of call")] += 1;
+    }
+
+    /// An accepted call held against one separate call a plan as well.
+    pub fn separate(&mut self) {
+        self.separate += 1;
+    }
+
+    /// A call of several plans with a length told beyond its bytes.
+    pub fn told(&mut self, what: Beyond) {
+        self.limits.told(what);
+    }
+
     /// An ended run held against the round-by-round run as well.
     pub fn rounds(&mut self) {
         self.rounds += 1;
@@ -189,6 +217,12 @@ impl Tally {
         ));
         rows.push(("length told 4 GiB too long".to_string(), self.vast));
         rows.push(("turn list of a tiny plan".to_string(), self.tiny));
+        let batches = BatchKind::ALL.map(|kind| format!("{kind:?}"));
+        rows.extend(named("random batch: ", &batches, &self.batch_kinds));
+        rows.push((
+            "batch held against separate runs".to_string(),
+            self.separate,
+        ));
         rows
     }
 }

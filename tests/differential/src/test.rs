@@ -2,21 +2,28 @@
 
 use simulator::generate::buffers::{noise, LENGTHS};
 use simulator::generate::damage::fault_pairs;
-use simulator::generate::{damaged_files, showcase, Rng, Scenario, Scenarios};
+use simulator::generate::{damaged_files, showcase, Batch, Batches, Rng, Scenario, Scenarios};
 
+use crate::batch::{self, compare_batch, compare_far, compare_separate, compare_wrapped};
 use crate::call::{
     compare_check, compare_rounds, compare_run, compare_vast, compare_vast_check, Call, Difference,
 };
 use crate::engine::Engine;
-use crate::limits;
-use crate::tally::Tally;
+use crate::limits::{self, batches};
+use crate::tally::{Beyond, Tally};
 use crate::tiny;
+
+/// A call on an engine.
+pub enum Tried {
+    Check(Call),
+    Run(Call),
+    Batch(Batch),
+}
 
 /// A call for which engine and simulator differ.
 pub struct Failure {
     pub label: String,
-    pub call: Call,
-    pub by_check: bool,
+    pub tried: Tried,
     pub difference: Difference,
 }
 
@@ -156,6 +163,65 @@ impl Test {
         Ok(())
     }
 
+    /// Calls of several plans at each limit, and ones that are told beyond
+    /// their bytes.
+    pub fn batches(&mut self) -> Done {
+        if !self.engine.can_run() {
+            return Ok(());
+        }
+        for limit in batches::all() {
+            self.try_batch(&limit.name, &limit.batch)?;
+        }
+        self.told_batches()
+    }
+
+    fn told_batches(&mut self) -> Done {
+        let files = vec![showcase().file(); 2];
+        let two = Batch::of(&mut Rng::new(33), &files);
+        for which in 0..batch::BUFFERS {
+            let difference = batch::compare_vast(&self.engine, &two, which);
+            self.settle_told(Beyond::Vast(which), &two, difference)?;
+        }
+        for wrapped in batches::wrapped() {
+            let difference = compare_wrapped(&self.engine, &wrapped);
+            self.settle_told(Beyond::Count, &wrapped, difference)?;
+        }
+        for (near, others) in batches::far() {
+            let difference = compare_far(&self.engine, &near, others);
+            self.settle_told(Beyond::Far, &near, difference)?;
+        }
+        Ok(())
+    }
+
+    fn settle_told(&mut self, what: Beyond, batch: &Batch, difference: Option<Difference>) -> Done {
+        self.tally.told(what);
+        settle_batch("told beyond the bytes that are there", batch, difference)
+    }
+
+    /// Runs several plans, and holds an accepted call against separate ones.
+    fn try_batch(&mut self, label: &str, batch: &Batch) -> Done {
+        // The alignment hangs on the call alone.
+        let shift = batch.files.len() % 16;
+        let (verdict, difference) = compare_batch(&self.engine, batch, shift);
+        self.tally.batch(batch, &verdict);
+        settle_batch(label, batch, difference)?;
+        if verdict.answer == 0 {
+            self.tally.separate();
+            settle_batch(label, batch, compare_separate(batch, &verdict))?;
+        }
+        Ok(())
+    }
+
+    /// The random call of several plans of a seed.
+    pub fn random_batch(&mut self, source: &Batches, seed: u64) -> Done {
+        if !self.engine.can_run() {
+            return Ok(());
+        }
+        let (kind, batch) = source.of(seed);
+        self.tally.batch_kind(kind);
+        self.try_batch(&format!("seed {seed}, {kind:?}"), &batch)
+    }
+
     /// The random call of a seed.
     pub fn random(&mut self, source: &Scenarios, seed: u64) -> Done {
         let scenario = source.of(seed);
@@ -180,12 +246,23 @@ fn call_of(scenario: Scenario) -> Call {
 }
 
 fn settle(label: &str, call: &Call, by_check: bool, difference: Option<Difference>) -> Done {
+    let tried = || match by_check {
+        true => Tried::Check(call.clone()),
+        false => Tried::Run(call.clone()),
+    };
+    fail(label, tried, difference)
+}
+
+fn settle_batch(label: &str, batch: &Batch, difference: Option<Difference>) -> Done {
+    fail(label, || Tried::Batch(batch.clone()), difference)
+}
+
+fn fail(label: &str, tried: impl Fn() -> Tried, difference: Option<Difference>) -> Done {
     match difference {
         None => Ok(()),
         Some(difference) => Err(Box::new(Failure {
             label: label.to_string(),
-            call: call.clone(),
-            by_check,
+            tried: tried(),
             difference,
         })),
     }

@@ -26,7 +26,7 @@ pub fn all() -> Vec<Limit> {
 }
 
 /// Eight workers with 128 steps, of which seven sleep, and so many barriers.
-fn longest(barriers: u8) -> simulator::generate::Draft {
+pub fn longest(barriers: u8) -> simulator::generate::Draft {
     let sizes: Vec<(u8, u16)> = (0..barriers).map(|barrier| (barrier, 8)).collect();
     let own: Vec<Step> = vec![step(16, 3, 65_535); MOST_STEPS];
     draft(&sizes, vec![own; 8]).asleep(&[1, 2, 3, 4, 5, 6, 7])

@@ -2,9 +2,12 @@
 
 use simulator::counts::Board;
 use simulator::format::LOG_RECORD_LENGTH;
+use simulator::generate::Batch;
 
+use super::batches::Beyond;
 use super::queues::Walk;
-use super::{answers, logs, operands, queues, reports};
+use super::{answers, batches, logs, operands, queues, reports};
+use crate::batch::BatchVerdict;
 use crate::call::{Call, Verdict};
 
 /// The boards of all limits.
@@ -16,6 +19,7 @@ pub struct Limits {
     reports: Board,
     logs: Board,
     queues: Board,
+    batches: Board,
 }
 
 impl Default for Limits {
@@ -28,6 +32,7 @@ impl Default for Limits {
             reports: Board::new(&reports::ROWS),
             logs: Board::new(&logs::ROWS),
             queues: Board::new(&queues::ROWS),
+            batches: Board::new(&batches::ROWS),
         }
     }
 }
@@ -53,6 +58,16 @@ impl Limits {
         self.log(verdict);
     }
 
+    /// A call of several plans.
+    pub fn batch(&mut self, batch: &Batch, verdict: &BatchVerdict) {
+        batches::note(&mut self.batches, batch, verdict);
+    }
+
+    /// A call of several plans that is told beyond its bytes.
+    pub fn told(&mut self, what: Beyond) {
+        batches::note_told(&mut self.batches, what);
+    }
+
     fn log(&mut self, verdict: &Verdict) {
         let mut walk = Walk::default();
         let records = verdict.log.chunks_exact(LOG_RECORD_LENGTH);
@@ -67,7 +82,7 @@ impl Limits {
         let mut boards = vec![&self.checks, &self.files];
         if with_runs {
             boards.extend([&self.runs, &self.within, &self.reports]);
-            boards.extend([&self.logs, &self.queues]);
+            boards.extend([&self.logs, &self.queues, &self.batches]);
         }
         boards
     }
