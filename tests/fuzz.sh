@@ -1,10 +1,10 @@
 #!/bin/sh
-# Fuzzes check and run, or replays the kept inputs.
+# Fuzzes check, run and run_all, or replays the kept inputs.
 #
 # tests/fuzz.sh replay [ARCHIVE] [INCLUDE]
 # tests/fuzz.sh run SECONDS [ARCHIVE] [INCLUDE]
 # tests/fuzz.sh keep [ARCHIVE] [INCLUDE]    keep those new inputs that add coverage
-# tests/fuzz.sh seeds                       have the simulator write its inputs into the kept ones: sleepers, starts, broadcasts, words of several workers
+# tests/fuzz.sh seeds                       have the simulator write its inputs into the kept ones: sleepers, starts, broadcasts, words of several workers, several plans
 #
 # ARCHIVE and INCLUDE as for tests/hosts.sh. Running and keeping need clang
 # with libFuzzer. New inputs go to build/fuzz/found. tests/fuzz/corpus.sum has
@@ -27,13 +27,13 @@ mkdir -p "$out/found"
 
 strict="-std=c99 -g -Wall -Wextra -Werror"
 if [ "$archive" = twin ]; then
-    ${CC:-cc} $strict -O2 -Dtwin_check=tampermauve_check \
-        -Dtwin_run=tampermauve_run -c bench/twin.c -o "$out/twin.o"
+    ${CC:-cc} $strict -O2 -Dtwin_check=tampermauve_check -Dtwin_run=tampermauve_run \
+        -Dtwin_run_all=tampermauve_run_all -c bench/twin.c -o "$out/twin.o"
     archive=$out/twin.o
 fi
 (cd tests/fuzz/reference && cargo build --release --offline --quiet)
 reference=tests/fuzz/reference/target/release/libreference.a
-sources="tests/fuzz/fuzz.c bench/twin.c"
+sources="tests/fuzz/fuzz.c tests/fuzz/batch.c bench/twin.c"
 libraries="$archive $reference -lpthread -ldl -lm"
 
 # The engine in C is compiled for coverage, which leads the fuzzer; the target
@@ -42,8 +42,9 @@ build_fuzzer() {
     safe="-O1 -fsanitize=address,undefined -fno-sanitize-recover=all"
     clang $strict $safe -fsanitize=fuzzer-no-link -c bench/twin.c -o "$out/covered.o"
     clang $strict $safe -I "$include" -c tests/fuzz/fuzz.c -o "$out/target.o"
-    clang $safe -fsanitize=fuzzer "$out/covered.o" "$out/target.o" $libraries \
-        -o "$out/fuzz"
+    clang $strict $safe -I "$include" -c tests/fuzz/batch.c -o "$out/batch.o"
+    clang $safe -fsanitize=fuzzer "$out/covered.o" "$out/target.o" "$out/batch.o" \
+        $libraries -o "$out/fuzz"
 }
 
 sum_of_corpus() {

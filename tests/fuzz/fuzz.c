@@ -1,8 +1,9 @@
-/* A fuzz target over check and run. The library, and the engine of
+/* A fuzz target over check and run, and over run_all for inputs whose first
+ * byte has the high digit D (see batch.c). The library, and the engine of
  * bench/twin.c as well, are held against the simulator: answers and every
  * byte of every buffer, guard bytes included. A difference ends in abort().
  *
- * An input is: a byte of flags, a byte for the lent buffers, two bytes for
+ * Another input is: a byte of flags, a byte for the lent buffers, two bytes for
  * the length of the plan's part, the plan's part, the turns' part. Flags:
  *   1  the plan's part is the file itself; else steps are made from it, four
  *      bytes each, so that most files are accepted
@@ -18,7 +19,7 @@
 #include <string.h>
 
 #include "../../bench/twin.h"
-#include "tampermauve.h"
+#include "fuzz.h"
 
 typedef uint32_t check_call(const uint8_t *, size_t);
 typedef uint32_t run_call(const uint8_t *, size_t, const uint8_t *, size_t,
@@ -31,11 +32,9 @@ run_call reference_run;
 int LLVMFuzzerTestOneInput(const uint8_t *data, size_t size);
 
 enum {
-    MOST_FILE = TAMPERMAUVE_FILE_LIMIT + TAMPERMAUVE_RECORD_LENGTH, /* one record too many */
-    MOST_TURNS = TAMPERMAUVE_TURNS_LIMIT + 1,                       /* one turn too many */
-    GUARD = 32,
-    GUARD_BYTE = 0xA7,
-    BUFFERS = 6
+    MOST_TURNS = TAMPERMAUVE_TURNS_LIMIT + 1, /* one turn too many */
+    BUFFERS = 6,
+    SEVERAL_PLANS = 0xD0
 };
 
 /* Memory, log, report, work, file, turns, in this order everywhere. */
@@ -45,38 +44,40 @@ static const char *const NAMES[BUFFERS] = {"memory", "log",  "report",
 static const size_t LENGTHS[4] = {TAMPERMAUVE_MEMORY_LENGTH, TAMPERMAUVE_LOG_LENGTH,
                                   TAMPERMAUVE_REPORT_LENGTH, TAMPERMAUVE_WORK_LENGTH};
 
-/* Room for the longest of the buffers with its guards. */
-struct buffer {
-    uint8_t bytes[MOST_TURNS + 2 * GUARD];
-    size_t len;
-};
-
 struct call {
     struct buffer buffers[BUFFERS];
 };
 
 static struct call given, left_by_reference, left_by_engine;
 
-static uint8_t *start(struct buffer *b)
+uint8_t *start(struct buffer *b)
 {
     return b->bytes + GUARD;
 }
 
-static void begin(struct buffer *b, size_t len, uint8_t old)
+void guard_end(struct buffer *b)
+{
+    memset(start(b) + b->len, GUARD_BYTE, GUARD);
+}
+
+void begin(struct buffer *b, size_t len, uint8_t old)
 {
     b->len = len;
     memset(b->bytes, GUARD_BYTE, GUARD);
     memset(start(b), old, len);
-    memset(start(b) + len, GUARD_BYTE, GUARD);
+    guard_end(b);
+}
+
+void copy_buffer(struct buffer *to, const struct buffer *from)
+{
+    to->len = from->len;
+    memcpy(to->bytes, from->bytes, from->len + 2 * GUARD);
 }
 
 static void copy_call(struct call *to, const struct call *from)
 {
-    for (int i = 0; i < BUFFERS; i++) {
-        to->buffers[i].len = from->buffers[i].len;
-        memcpy(to->buffers[i].bytes, from->buffers[i].bytes,
-               from->buffers[i].len + 2 * GUARD);
-    }
+    for (int i = 0; i < BUFFERS; i++)
+        copy_buffer(&to->buffers[i], &from->buffers[i]);
 }
 
 static uint32_t play(run_call *run, struct call *c)
@@ -87,7 +88,7 @@ static uint32_t play(run_call *run, struct call *c)
                start(&b[2]), b[2].len, start(&b[3]), b[3].len);
 }
 
-static void differs(const char *engine, const char *what, size_t at)
+void differs(const char *engine, const char *what, size_t at)
 {
     fprintf(stderr, "%s differs from the simulator: %s, %zu\n", engine, what, at);
     abort();
@@ -101,6 +102,13 @@ static size_t first_difference(const struct buffer *one, const struct buffer *ot
     return at;
 }
 
+void same_bytes(const char *engine, const char *name, const struct buffer *ours,
+                const struct buffer *theirs)
+{
+    if (memcmp(ours->bytes, theirs->bytes, ours->len + 2 * GUARD) != 0)
+        differs(engine, name, first_difference(ours, theirs) - GUARD);
+}
+
 static void compare(const char *engine, check_call *check, run_call *run,
                     uint32_t checked, uint32_t ran)
 {
@@ -110,12 +118,9 @@ static void compare(const char *engine, check_call *check, run_call *run,
         differs(engine, "answer of check", checked);
     if (play(run, &left_by_engine) != ran)
         differs(engine, "answer of run", ran);
-    for (int i = 0; i < BUFFERS; i++) {
-        const struct buffer *ours = &left_by_engine.buffers[i];
-        const struct buffer *theirs = &left_by_reference.buffers[i];
-        if (memcmp(ours->bytes, theirs->bytes, ours->len + 2 * GUARD) != 0)
-            differs(engine, NAMES[i], first_difference(ours, theirs) - GUARD);
-    }
+    for (int i = 0; i < BUFFERS; i++)
+        same_bytes(engine, NAMES[i], &left_by_engine.buffers[i],
+                   &left_by_reference.buffers[i]);
 }
 
 /* --- From an input to a call -------------------------------------------- */
@@ -173,7 +178,7 @@ static void put_step(struct buffer *file, unsigned worker, unsigned workers, con
  * seven bits whether the barrier of that number has a size, and which, and in
  * the top bit whether the worker of that number sleeps; the first never does.
  * The top bit of a step's first byte goes on to the next worker. */
-static void make_file(struct buffer *file, const uint8_t *from, size_t len)
+void make_file(struct buffer *file, const uint8_t *from, size_t len)
 {
     unsigned workers, worker = 0;
     file->len = 0;
@@ -237,8 +242,8 @@ static void make_call(const uint8_t *data, size_t size)
         make_file(file, data, len);
     make_turns(turns, data + len, size - len, flags,
                file->len > TAMPERMAUVE_RECORD_WORKER ? start(file)[TAMPERMAUVE_RECORD_WORKER] : 0);
-    memset(start(file) + file->len, GUARD_BYTE, GUARD);
-    memset(start(turns) + turns->len, GUARD_BYTE, GUARD);
+    guard_end(file);
+    guard_end(turns);
     make_lent(flags, wrong);
 }
 
@@ -248,6 +253,10 @@ int LLVMFuzzerTestOneInput(const uint8_t *data, size_t size)
     uint32_t checked, ran;
     if (size < 4)
         return 0;
+    if ((data[0] & 0xF0) == SEVERAL_PLANS) {
+        try_batch(data, size);
+        return 0;
+    }
     make_call(data, size);
     copy_call(&left_by_reference, &given);
     checked = reference_check(start(file), file->len);

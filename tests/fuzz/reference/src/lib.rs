@@ -1,4 +1,4 @@
-//! The simulator behind the parameters of the library's two C calls.
+//! The simulator behind the parameters of the library's C calls.
 
 use std::slice::{from_raw_parts, from_raw_parts_mut};
 
@@ -39,4 +39,38 @@ pub unsafe extern "C" fn reference_run(
         from_raw_parts_mut(report, report_len),
         from_raw_parts_mut(work, work_len),
     )
+}
+
+/// Runs several plans.
+///
+/// # Safety
+/// So many bytes can be read, and for the last five written, at each pointer;
+/// no two buffers overlap.
+#[no_mangle]
+pub unsafe extern "C" fn reference_run_all(
+    count: usize,
+    files: *const u8,
+    files_len: usize,
+    lengths: *const u8,
+    lengths_len: usize,
+    memories: *mut u8,
+    memories_len: usize,
+    logs: *mut u8,
+    logs_len: usize,
+    reports: *mut u8,
+    reports_len: usize,
+    answers: *mut u8,
+    answers_len: usize,
+    work: *mut u8,
+    work_len: usize,
+) -> u32 {
+    let lent = [
+        from_raw_parts_mut(memories, memories_len),
+        from_raw_parts_mut(logs, logs_len),
+        from_raw_parts_mut(reports, reports_len),
+        from_raw_parts_mut(answers, answers_len),
+        from_raw_parts_mut(work, work_len),
+    ];
+    let files = from_raw_parts(files, files_len);
+    simulator::run_all(count, files, from_raw_parts(lengths, lengths_len), lent)
 }

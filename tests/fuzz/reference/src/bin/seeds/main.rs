@@ -1,12 +1,15 @@
-//! Writes inputs of the fuzz target with sleepers, starts, broadcasts and words
-//! that several workers write.
+//! Writes inputs of the fuzz target with sleepers, starts, broadcasts, words
+//! that several workers write, and several plans.
 //!
 //! `seeds FOLDER`. tests/fuzz/fuzz.c says how an input is laid out. The inputs
 //! are the same each time: `start-N`, `broadcast-N` and `sum-N` are plans with
 //! their turns, `commit-N` plans up to their first commit, `sleep-N` files with a fault of a sleep record or of a start,
 //! `long-4` a file of the greatest length and `long-5` one with a record more,
 //! `made-starts`, `made-sleepers` and `made-broadcasts` are steps from which
-//! the target makes a file, `length-*-4` plans with a buffer four bytes short.
+//! the target makes a file, `length-*-4` plans with a buffer four bytes short,
+//! `batch-N` several plans.
+
+mod batches;
 
 use std::path::Path;
 use std::process::ExitCode;
@@ -63,6 +66,7 @@ fn write_all(folder: &Path) -> std::io::Result<usize> {
     all.extend(numbered("sum", sums(&mut rng)));
     all.extend(numbered("commit", commits()));
     all.extend(short_buffers());
+    all.extend(numbered("batch", batches::all()));
     for (name, bytes) in &all {
         fs::write(folder.join(name), bytes)?;
     }
