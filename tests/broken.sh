@@ -76,11 +76,11 @@ apart() {
     changed "a value that the simulator's tests expect" simulator/tests/cases.rs '0,/finished 12/s//finished 13/' 'test failed' make test-simulator
     changed "the twin" bench/twin.c 's/MOST_TURNS = 65535,/MOST_TURNS = 65534,/' 'expected: 0, got: 12' make test-twin
     changed "the table of mutants, without a fault" tests/differential/mutants '/^== step-129$/,/^$/d' 'faults, has' tests/mutants.sh 100
-    changed "an input of the corpus" tests/fuzz/corpus/raw-race 's/M/N/' 'not those of tests/fuzz/corpus.sum: 707' make test-fuzz
-    without "an input of the corpus, lost" tests/fuzz/corpus/raw-race 'not those of tests/fuzz/corpus.sum: 706' make test-fuzz
+    changed "an input of the corpus" tests/fuzz/corpus/raw-race 's/M/N/' 'not those of tests/fuzz/corpus.sum: 791' make test-fuzz
+    without "an input of the corpus, lost" tests/fuzz/corpus/raw-race 'not those of tests/fuzz/corpus.sum: 790' make test-fuzz
     cp -rp tests/fuzz/corpus "$work/kept"
     for input in tests/fuzz/corpus/*; do : >"$input"; done
-    fails "a corpus of empty inputs" 'not those of tests/fuzz/corpus.sum: 707' make test-fuzz
+    fails "a corpus of empty inputs" 'not those of tests/fuzz/corpus.sum: 791' make test-fuzz
     rm -r tests/fuzz/corpus && mv "$work/kept" tests/fuzz/corpus
 }
 
@@ -88,7 +88,7 @@ apart() {
 wrong_archive() {
     cp -p "$archive" "$work/right/"
     sed 's/put_behind_first(&e->list, woken);/push(\&e->next, woken);/' bench/twin.c >"$work/twin.c"
-    gcc -std=c99 -O1 -w -I bench -Dtwin_check=tampermauve_check -Dtwin_run=tampermauve_run -c "$work/twin.c" -o "$work/twin.o" || exit 2
+    gcc -std=c99 -O1 -w -I bench -Dtwin_check=tampermauve_check -Dtwin_run=tampermauve_run -Dtwin_run_all=tampermauve_run_all -c "$work/twin.c" -o "$work/twin.o" || exit 2
     rm "$archive" && ar rcs "$archive" "$work/twin.o" || exit 2
 }
 
