@@ -85,6 +85,7 @@ const ADDS: Row = &[
     (18, 0, 0),
     (33, 0, 0),
 ];
+const RACES: Row = &[(17, 0, 0), (16, 1, 1), (19, 0, 1), (18, 0, 0)];
 const STORES_AND_MEETS: Row = &[(16, 2, 513), (18, 2, 1_023), (37, 0, 3)];
 const WAITS: Row = &[(16, 1, 9), (18, 1, 6), (32, 0, 1), (34, 0, 5), (33, 0, 1)];
 
@@ -117,8 +118,20 @@ fn plans() -> Vec<Vec<u8>> {
         draft(&[], (1..9).map(|word| all_pages(31 * word)).collect()),
         draft(&[], vec![fails_late, all_pages(9)]),
         draft(&[], vec![times(128, 32, 15), times(128, 36, 0)]),
+        rows(&[], &[RACES; 8]),
+        one_a_round(),
     ];
     drafts.iter().map(Draft::file).collect()
+}
+
+/// The most rounds: one worker after the other gives up the token 127 times and
+/// starts the next, and the last one 128 times.
+fn one_a_round() -> Draft {
+    let turns = |worker: u16| match worker {
+        7 => times(128, 35, 0),
+        _ => [times(127, 35, 0), times(1, 39, worker + 1)].concat(),
+    };
+    draft(&[], (0..8).map(turns).collect()).asleep(&[1, 2, 3, 4, 5, 6, 7])
 }
 
 /// Files that are refused, most of them at a record behind the first.
@@ -288,7 +301,7 @@ impl Maker {
     fn wrong_buffers(&mut self) {
         for count in COUNTS {
             for which in 0..5 {
-                for how in 0..6 {
+                for how in 0..7 {
                     let mut batch = self.accepted(count);
                     make_wrong(&mut batch, which, how);
                     self.push("a buffer's length", batch);
@@ -372,7 +385,8 @@ fn make_wrong(batch: &mut Batch, which: usize, how: usize) {
         2 => 2 * right,
         3 => right - 1,
         4 => right - unit,
-        _ => 0,
+        5 => 0,
+        _ => right + 65_536,
     };
     buffer.resize(length, 0);
 }
