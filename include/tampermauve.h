@@ -5,14 +5,16 @@
  * Rules for every call
  *   - A byte buffer passes as a pointer and then its length in bytes. The call reads and writes inside that length only.
  *   - A pointer is never NULL, also where the length is 0. Bytes need no alignment.
- *   - `file` and `turns` are only read. `memory`, `log`, `report` and `work` are lent: the call may write them, and the
- *     caller owns them before and after. A lent buffer overlaps no other buffer of the same call.
+ *   - `file`, `turns`, `files` and `lengths` are only read. `memory`, `log`, `report` and `work`, and for many plans `memories`,
+ *     `logs`, `reports` and `answers`, are lent: the call may write them, and the caller owns them before and after. A lent buffer
+ *     overlaps no other buffer of the same call.
  *   - No call keeps a pointer, allocates memory or has a state of its own. Calls at the same time, from several threads,
  *     are fine as long as no call writes a buffer that another one uses.
  *   - Every input of these types is answered. A wrong length or wrong content is refused by number, never a fault.
- *   - A refusal changes no byte of any buffer.
+ *   - A refusal changes no byte of any buffer. Among many plans, one that is refused has no byte of its memory, log and report
+ *     changed.
  *   - A call uses less than TAMPERMAUVE_STACK_LIMIT bytes of the caller's stack (`make test-stack` measures it: some 630 for a
- *     check and 1,400 for a run).
+ *     check, 1,400 for a run and N,NNN for a run of many plans).
  */
 #ifndef TAMPERMAUVE_H
 #define TAMPERMAUVE_H
@@ -25,15 +27,16 @@ extern "C" {
 #endif
 
 /* ---- The version of the library that this header fits. A host that was compiled with a header of version 1 lends a report of 16
- *      bytes, and its runs are refused with 11: compile it anew. */
+ *      bytes, and its runs are refused with 11: compile it anew. 2.1 has one call more than 2.0, tampermauve_run_all, with its refusal
+ *      15, and nothing else is changed: a host that was compiled with a header of 2.0 can stay as it is. */
 
 #define TAMPERMAUVE_VERSION_MAJOR 2
-#define TAMPERMAUVE_VERSION_MINOR 0
+#define TAMPERMAUVE_VERSION_MINOR 1
 #define TAMPERMAUVE_VERSION_PATCH 0
-#define TAMPERMAUVE_VERSION "2.0.0"
+#define TAMPERMAUVE_VERSION "2.1.0"
 
 /* ---- What a call returns: refusal + 256 x index, where index is that of a record of the file, the plan record being 0.
- *      The index is 0 for the refusals 1, 11, 12 and 13. An accepted call returns 0. */
+ *      The index is 0 for the refusals 1, 11, 12, 13 and 15. An accepted call returns 0. */
 
 #define TAMPERMAUVE_ACCEPTED UINT32_C(0)
 
@@ -52,8 +55,10 @@ extern "C" {
                                                    with a register or number not zero; it is tested where 4 is */
 
 /* caused by the host */
-#define TAMPERMAUVE_BAD_BUFFER UINT32_C(11)     /* a lent buffer of another length */
+#define TAMPERMAUVE_BAD_BUFFER UINT32_C(11)     /* a lent buffer of another length; of those of many plans `work` alone */
 #define TAMPERMAUVE_TOO_MANY_TURNS UINT32_C(12) /* a turn list above 65,535 bytes */
+#define TAMPERMAUVE_BAD_BATCH UINT32_C(15)      /* many plans: their count is not 1 to 40, their lengths do not add up to the bytes of
+                                                   `files`, or a buffer other than `work` is not the count times its unit */
 
 /* caused by whoever picks the turns */
 #define TAMPERMAUVE_BAD_TURN UINT32_C(13)       /* a turn that names a worker not below n */
@@ -75,6 +80,11 @@ static inline uint32_t tampermauve_index(uint32_t returned) { return returned / 
 #define TAMPERMAUVE_ENTRY_LENGTH 8u    /* a record of the log */
 
 #define TAMPERMAUVE_STACK_LIMIT 4096u  /* stack of a call: measured, and rounded up */
+
+/* ---- Many plans in one call */
+
+#define TAMPERMAUVE_PLANS_LIMIT 40u    /* the most plans of a call; the least is 1 */
+#define TAMPERMAUVE_LENGTH_BYTES 4u    /* the bytes of one number in `lengths` */
 
 /* ---- Limits of a plan */
 
@@ -188,6 +198,15 @@ static inline size_t tampermauve_ending_cycles(size_t steps, size_t workers) { r
 
 #define TAMPERMAUVE_ENDING_TURNS 16512u /* 2 x (8 x 128 + 8) cycles of 8 turns */
 
+/* ---- The lengths of many files: writes that of one of them, the first being 0, into `lengths`, low byte first. */
+static inline void tampermauve_put_length(uint8_t *lengths, size_t plan, uint32_t length) {
+    uint8_t *at = lengths + TAMPERMAUVE_LENGTH_BYTES * plan;
+    at[0] = (uint8_t)(length & 255u);
+    at[1] = (uint8_t)(length >> 8 & 255u);
+    at[2] = (uint8_t)(length >> 16 & 255u);
+    at[3] = (uint8_t)(length >> 24);
+}
+
 /* ---- Calls */
 
 /* Checks a plan file: 0 if it is accepted, else one of the refusals 1 to 10 and 14 with its index. Nothing is written.
@@ -210,6 +229,29 @@ uint32_t tampermauve_check(const uint8_t *file, size_t file_length);
 uint32_t tampermauve_run(const uint8_t *file, size_t file_length, const uint8_t *turns, size_t turns_length, uint8_t *memory,
                          size_t memory_length, uint8_t *log, size_t log_length, uint8_t *report, size_t report_length,
                          uint8_t *work, size_t work_length);
+
+/* Runs 1 to TAMPERMAUVE_PLANS_LIMIT plan files, one after the other and each to its end: as one call of tampermauve_run for each of
+ * them, with the same `work` and with as many whole cycles of turns as end it. No turns are handed in.
+ *
+ * It tests 11, for `work` alone, and then 15, before it reads any file and writes any byte, and returns that number. Else it returns
+ * 0, whatever becomes of the plans; `answers` tells that.
+ *
+ *   count     how many plans
+ *   files     their files, back to back without gaps
+ *   lengths   exactly count x TAMPERMAUVE_LENGTH_BYTES bytes: the bytes of each file (tampermauve_put_length). They add up to
+ *             files_length, with no wrap
+ *   memories  exactly count x TAMPERMAUVE_MEMORY_LENGTH bytes: in, each plan's starting memory; out, its shared memory
+ *   logs      exactly count x TAMPERMAUVE_LOG_LENGTH bytes: out, for each plan its records and then zeros
+ *   reports   exactly count x TAMPERMAUVE_REPORT_LENGTH bytes: out, each plan's report
+ *   answers   exactly count bytes: out, for each plan 0, or the number of its refusal, 1 to 10 or 14, without the index, which
+ *             tampermauve_check gives
+ *   work      exactly TAMPERMAUVE_WORK_LENGTH bytes: out, all zero; as it was if every plan is refused
+ *
+ * What logs, reports, answers and work hold before the call does not matter. A refused plan leaves its own memory, log and report as
+ * they were, and those behind it are run all the same. A length that no file may have, 0 among them, is its plan's refusal 1. */
+uint32_t tampermauve_run_all(size_t count, const uint8_t *files, size_t files_length, const uint8_t *lengths, size_t lengths_length,
+                             uint8_t *memories, size_t memories_length, uint8_t *logs, size_t logs_length, uint8_t *reports,
+                             size_t reports_length, uint8_t *answers, size_t answers_length, uint8_t *work, size_t work_length);
 
 #ifdef __cplusplus
 }
