@@ -3,11 +3,16 @@
  * Steps are read straight from the file's records. Shared memory is the lent
  * memory itself, and the lent work buffer holds the workers' page copies with
  * their twins. For every worker there is a byte that says what a turn of it
- * may do, so that a turn that passes costs one look. The sum of shared memory's
- * words is worked out once, and then moved by each commit. */
+ * may do, so that a turn that passes costs one look. A run to the end takes no
+ * turns: it goes round by round. The sum of shared memory's words is worked out
+ * once, and then moved by each commit. */
 #include "twin.h"
 
 #include <string.h>
+
+/* For what runs with turns and runs without share, so that both have it in their
+ * loops; left to the compiler, each step would cost a call or two. */
+#define IN_PLACE static inline __attribute__((always_inline))
 
 enum {
     RECORD = 7,
@@ -23,7 +28,9 @@ enum {
     LOG = 8256,
     LOG_RECORD = 8,
     REPORT = 20,
-    WORK = 32768
+    WORK = 32768,
+    MOST_PLANS = 40,
+    LENGTH = 4
 };
 
 enum {
@@ -352,8 +359,8 @@ static uint16_t load(const struct engine *e, const struct worker *w, unsigned at
     return (uint16_t)(low | high << 8);
 }
 
-static void store(const struct engine *e, struct worker *w, unsigned at,
-                  uint16_t value)
+IN_PLACE void store(const struct engine *e, struct worker *w, unsigned at,
+                    uint16_t value)
 {
     unsigned above = at + 1;
     page_to_write(e, w, at / PAGE)[at % PAGE] = (uint8_t)(value & 255);
@@ -418,14 +425,20 @@ static void commit_copies(struct engine *e, struct worker *w)
 }
 
 /* Apart from the above, so that a step of a worker without copies costs a look. */
-static void commit(struct engine *e, struct worker *w)
+IN_PLACE void commit(struct engine *e, struct worker *w)
 {
     if (w->copied != 0)
         commit_copies(e, w);
 }
 
+/* The op of a record, or of the end. */
+static unsigned op_at(const uint8_t *step, const uint8_t *behind)
+{
+    return step == behind ? OP_EXIT : step[AT_OP];
+}
+
 /* A step on registers or memory. */
-static void plain_step(const struct engine *e, struct worker *w, unsigned op)
+IN_PLACE void plain_step(const struct engine *e, struct worker *w, unsigned op)
 {
     const uint8_t *record = w->step;
     unsigned number = number_of(record);
@@ -456,52 +469,38 @@ static void plain_step(const struct engine *e, struct worker *w, unsigned op)
     }
 }
 
-/* Lets all workers of the list run to the fence. */
-static void begin_round(struct engine *e)
-{
-    uint64_t bytes = e->list.bytes;
-    e->running = e->list.len;
-    for (unsigned i = 0; i < e->list.len; i++, bytes >>= 8)
-        e->may[bytes & 255] = TO_FENCE;
-}
-
-static void arrive(struct engine *e, struct worker *w)
-{
-    e->may[w->name] = PASS;
-    e->running -= 1;
-    if (e->running == 0)
-        e->may[first_of(&e->list)] = HOLDS_TOKEN;
-}
-
-/* The holder is out of the list: the next one gets the token, or the next
- * round begins, if anybody is left for it. */
-static void pass_token(struct engine *e, struct worker *w)
+/* The holder is out of the list, and the next one in it gets the token. Where
+ * the list is empty now, whoever plays goes on to the next one. */
+IN_PLACE void pass_token(struct engine *e, struct worker *w)
 {
     e->may[w->name] = PASS;
     pop(&e->list);
-    if (e->list.len != 0) {
+    if (e->list.len != 0)
         e->may[first_of(&e->list)] = HOLDS_TOKEN;
-        return;
-    }
+}
+
+/* The list is empty: a round is completed. Whether anybody is left for another. */
+static int next_round(struct engine *e)
+{
     e->rounds += 1;
     e->list = e->next;
     e->next = (struct queue){0, 0};
-    begin_round(e);
+    return e->list.len != 0;
 }
 
-static void give_up_token(struct engine *e, struct worker *w)
+IN_PLACE void give_up_token(struct engine *e, struct worker *w)
 {
     push(&e->next, w->name);
     pass_token(e, w);
 }
 
-static void leave(struct engine *e, struct worker *w, uint8_t fate)
+IN_PLACE void leave(struct engine *e, struct worker *w, uint8_t fate)
 {
     w->fate = fate;
     pass_token(e, w);
 }
 
-static void write_log(struct engine *e, const struct worker *w, unsigned op,
+IN_PLACE void write_log(struct engine *e, const struct worker *w, unsigned op,
                       unsigned number, unsigned outcome)
 {
     unsigned round = e->rounds + 1;
@@ -517,14 +516,14 @@ static void write_log(struct engine *e, const struct worker *w, unsigned op,
     e->log_fill += LOG_RECORD;
 }
 
-static void fail(struct engine *e, struct worker *w, unsigned op, unsigned number)
+IN_PLACE void fail(struct engine *e, struct worker *w, unsigned op, unsigned number)
 {
     write_log(e, w, op, number, FAILURE);
     w->copied = 0;
     leave(e, w, FAILED);
 }
 
-static void lock(struct engine *e, struct worker *w, unsigned number)
+IN_PLACE void lock(struct engine *e, struct worker *w, unsigned number)
 {
     if (w->count == 0)
         commit(e, w);
@@ -532,7 +531,7 @@ static void lock(struct engine *e, struct worker *w, unsigned number)
     write_log(e, w, OP_LOCK, number, w->count);
 }
 
-static void unlock(struct engine *e, struct worker *w, unsigned number)
+IN_PLACE void unlock(struct engine *e, struct worker *w, unsigned number)
 {
     w->count -= 1;
     write_log(e, w, OP_UNLOCK, number, w->count);
@@ -542,7 +541,7 @@ static void unlock(struct engine *e, struct worker *w, unsigned number)
     }
 }
 
-static void wait_on(struct engine *e, struct worker *w, unsigned condition)
+IN_PLACE void wait_on(struct engine *e, struct worker *w, unsigned condition)
 {
     commit(e, w);
     push(&e->conditions[condition], w->name);
@@ -550,7 +549,7 @@ static void wait_on(struct engine *e, struct worker *w, unsigned condition)
     leave(e, w, ON_CONDITION);
 }
 
-static void wake_one(struct engine *e, struct worker *w, unsigned condition)
+IN_PLACE void wake_one(struct engine *e, struct worker *w, unsigned condition)
 {
     struct queue *waiting = &e->conditions[condition];
     unsigned woken = NOBODY;
@@ -565,7 +564,7 @@ static void wake_one(struct engine *e, struct worker *w, unsigned condition)
         give_up_token(e, w);
 }
 
-static void wake_all(struct engine *e, struct worker *w, unsigned condition)
+IN_PLACE void wake_all(struct engine *e, struct worker *w, unsigned condition)
 {
     struct queue all = e->conditions[condition];
     commit(e, w);
@@ -578,7 +577,7 @@ static void wake_all(struct engine *e, struct worker *w, unsigned condition)
         give_up_token(e, w);
 }
 
-static void meet(struct engine *e, struct worker *w, unsigned barrier)
+IN_PLACE void meet(struct engine *e, struct worker *w, unsigned barrier)
 {
     struct queue *met = &e->barriers[barrier];
     unsigned size = e->plan->size[barrier];
@@ -599,7 +598,7 @@ static void meet(struct engine *e, struct worker *w, unsigned barrier)
 }
 
 /* The caller keeps the token, with no lock held too. */
-static void start_worker(struct engine *e, struct worker *w, unsigned name)
+IN_PLACE void start_worker(struct engine *e, struct worker *w, unsigned name)
 {
     unsigned outcome = AWAKE;
     commit(e, w);
@@ -611,7 +610,7 @@ static void start_worker(struct engine *e, struct worker *w, unsigned name)
     write_log(e, w, OP_START, name, outcome);
 }
 
-static void exit_plan(struct engine *e, struct worker *w)
+IN_PLACE void exit_plan(struct engine *e, struct worker *w)
 {
     commit(e, w);
     write_log(e, w, OP_EXIT, 0, NOBODY);
@@ -632,7 +631,7 @@ static int fails(const struct worker *w, unsigned op)
     return 0;
 }
 
-static void token_step(struct engine *e, struct worker *w, unsigned op)
+IN_PLACE void token_step(struct engine *e, struct worker *w, unsigned op)
 {
     unsigned number = w->step == w->behind ? 0 : number_of(w->step);
     if (fails(w, op)) {
@@ -668,9 +667,28 @@ static void token_step(struct engine *e, struct worker *w, unsigned op)
     }
 }
 
+/* --- Turns --------------------------------------------------------------- */
+
+/* Lets all workers of the list run to the fence. */
+static void begin_round(struct engine *e)
+{
+    uint64_t bytes = e->list.bytes;
+    e->running = e->list.len;
+    for (unsigned i = 0; i < e->list.len; i++, bytes >>= 8)
+        e->may[bytes & 255] = TO_FENCE;
+}
+
+static void arrive(struct engine *e, struct worker *w)
+{
+    e->may[w->name] = PASS;
+    e->running -= 1;
+    if (e->running == 0)
+        e->may[first_of(&e->list)] = HOLDS_TOKEN;
+}
+
 static void move(struct engine *e, struct worker *w)
 {
-    unsigned op = w->step == w->behind ? OP_EXIT : w->step[AT_OP];
+    unsigned op = op_at(w->step, w->behind);
     e->moves += 1;
     if (op < OP_LOCK)
         plain_step(e, w, op);
@@ -682,18 +700,67 @@ static void move(struct engine *e, struct worker *w)
 
 static void play(struct engine *e, const uint8_t *turns, size_t turns_len)
 {
+    begin_round(e);
     for (size_t i = 0; i < turns_len; i++)
         if (e->may[turns[i]] != PASS) {
             move(e, &e->workers[turns[i]]);
-            if (e->list.len == 0) /* the plan has ended: the rest passes */
+            if (e->list.len != 0)
+                continue;
+            if (!next_round(e)) /* the plan has ended: the rest passes */
                 return;
+            begin_round(e);
         }
+}
+
+/* --- Rounds without turns ------------------------------------------------ */
+
+/* A worker runs by itself up to a step that synchronises, or its end: its op. */
+static inline unsigned run_by_itself(struct engine *e, struct worker *w)
+{
+    unsigned op, moves = 0;
+    while ((op = op_at(w->step, w->behind)) < OP_LOCK) {
+        plain_step(e, w, op);
+        moves += 1;
+    }
+    e->moves += moves;
+    return op;
+}
+
+/* Nobody commits on the way to the fence, so that one after the other will do. */
+static void meet_at_fence(struct engine *e)
+{
+    uint64_t bytes = e->list.bytes;
+    for (unsigned i = 0; i < e->list.len; i++, bytes >>= 8)
+        run_by_itself(e, &e->workers[bytes & 255]);
+    e->moves += e->list.len; /* the arrivals */
+}
+
+/* The first in the list goes on until it is out of it. */
+static void hold_token(struct engine *e)
+{
+    unsigned name = first_of(&e->list);
+    struct worker *w = &e->workers[name];
+    do {
+        unsigned op = run_by_itself(e, w);
+        e->moves += 1;
+        token_step(e, w, op);
+    } while (e->list.len != 0 && first_of(&e->list) == name);
+}
+
+/* Worker 0 never sleeps, so that there is a first round. */
+static void play_to_end(struct engine *e)
+{
+    do {
+        meet_at_fence(e);
+        while (e->list.len != 0)
+            hold_token(e);
+    } while (next_round(e));
 }
 
 /* --- The run ------------------------------------------------------------ */
 
-static void start(struct engine *e, const struct plan *plan, const uint8_t *file,
-                  uint8_t *memory, uint8_t *log, uint8_t *work)
+IN_PLACE void start(struct engine *e, const struct plan *plan, const uint8_t *file,
+                    uint8_t *memory, uint8_t *log, uint8_t *work)
 {
     memset(e, 0, sizeof *e);
     e->plan = plan;
@@ -710,7 +777,6 @@ static void start(struct engine *e, const struct plan *plan, const uint8_t *file
         if (w->fate == GOING)
             push(&e->list, i);
     }
-    begin_round(e);
 }
 
 /* Whether a worker of this fate lets a plan be finished. */
@@ -742,7 +808,7 @@ static void put_four(uint8_t *to, uint32_t number)
     put_two(to + 2, number >> 16);
 }
 
-static void fill_report(const struct engine *e, uint8_t *report)
+IN_PLACE void fill_report(const struct engine *e, uint8_t *report)
 {
     report[0] = end_of(e);
     report[1] = (uint8_t)e->plan->workers;
@@ -753,6 +819,13 @@ static void fill_report(const struct engine *e, uint8_t *report)
     for (unsigned i = 0; i < e->plan->workers; i++)
         report[8 + i] = e->workers[i].fate;
     put_four(report + 16, e->sum);
+}
+
+/* What a run leaves beside memory and work. */
+IN_PLACE void finish(const struct engine *e, uint8_t *report)
+{
+    fill_report(e, report);
+    memset(e->log + e->log_fill, 0, LOG - e->log_fill);
 }
 
 static int names_nobody(const uint8_t *turns, size_t turns_len, unsigned workers)
@@ -785,8 +858,72 @@ uint32_t twin_run(const uint8_t *file, size_t file_len,
         return 13;
     start(&engine, &plan, file, memory, log, work);
     play(&engine, turns, turns_len);
-    fill_report(&engine, report);
-    memset(log + engine.log_fill, 0, LOG - engine.log_fill);
+    finish(&engine, report);
     memset(work, 0, WORK);
+    return 0;
+}
+
+/* --- Many plans ---------------------------------------------------------- */
+
+static uint32_t length_of(const uint8_t *lengths, size_t plan)
+{
+    const uint8_t *at = lengths + plan * LENGTH;
+    return at[0] | (uint32_t)at[1] << 8 | (uint32_t)at[2] << 16 |
+           (uint32_t)at[3] << 24;
+}
+
+/* The sum is exact: forty such numbers are far below 2^64. */
+static int add_up(size_t count, const uint8_t *lengths, size_t files_len)
+{
+    uint64_t sum = 0;
+    for (size_t plan = 0; plan < count; plan++)
+        sum += length_of(lengths, plan);
+    return sum == files_len;
+}
+
+/* One plan of many: 0, or the number of its refusal. Work is not cleared: no
+ * run reads what it has not written there. */
+static uint8_t run_one(const uint8_t *file, size_t file_len, uint8_t *memory,
+                       uint8_t *log, uint8_t *report, uint8_t *work)
+{
+    struct plan plan;
+    struct engine engine;
+    uint32_t refusal = read_file(&plan, file, file_len);
+    if (refusal != 0)
+        return (uint8_t)(refusal & 255);
+    start(&engine, &plan, file, memory, log, work);
+    play_to_end(&engine);
+    finish(&engine, report);
+    return 0;
+}
+
+uint32_t twin_run_all(size_t count,
+                      const uint8_t *files, size_t files_len,
+                      const uint8_t *lengths, size_t lengths_len,
+                      uint8_t *memories, size_t memories_len,
+                      uint8_t *logs, size_t logs_len,
+                      uint8_t *reports, size_t reports_len,
+                      uint8_t *answers, size_t answers_len,
+                      uint8_t *work, size_t work_len)
+{
+    const uint8_t *file = files;
+    int any = 0;
+    if (work_len != WORK)
+        return 11;
+    if (count < 1 || count > MOST_PLANS)
+        return 15;
+    if (lengths_len != count * LENGTH || memories_len != count * MEMORY ||
+        logs_len != count * LOG || reports_len != count * REPORT ||
+        answers_len != count || !add_up(count, lengths, files_len))
+        return 15;
+    for (size_t plan = 0; plan < count; plan++) {
+        uint32_t file_len = length_of(lengths, plan);
+        answers[plan] = run_one(file, file_len, memories + plan * MEMORY,
+                                logs + plan * LOG, reports + plan * REPORT, work);
+        any |= answers[plan] == 0;
+        file += file_len;
+    }
+    if (any) /* an accepted run leaves work all zero, whoever comes after it */
+        memset(work, 0, WORK);
     return 0;
 }
