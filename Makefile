@@ -19,7 +19,7 @@ HEADER = include/tampermauve.h
 OUT = target/c
 
 # a C test program NAME is tests/NAME.c; it is run as it is, with sanitizers, and under valgrind
-C_TESTS = check run
+C_TESTS = check run run_all
 C_PROGRAMS = $(C_TESTS:%=$(OUT)/%) $(C_TESTS:%=$(OUT)/%.sanitized)
 
 # Rattle programs, which `rt check` proves and links to target/bin/NAME

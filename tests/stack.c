@@ -1,5 +1,6 @@
 /* How much stack the calls use. Each is made on a thread whose stack is ours and filled with a pattern: what no longer has it was
- * used. The plan is the longest, every op is in it, and its turns end it. */
+ * used. The plan is the longest, every op is in it, and its turns end it. A call for many plans has it twice, and between them a refused
+ * one. */
 #define _XOPEN_SOURCE 600
 
 #include <pthread.h>
@@ -14,6 +15,13 @@ enum { ROOM = 1 << 20, PATTERN = 0xA5 };
 static struct plan_file file;
 static uint8_t turns[TAMPERMAUVE_ENDING_TURNS], memory[TAMPERMAUVE_MEMORY_LENGTH], lines[TAMPERMAUVE_LOG_LENGTH];
 static uint8_t report[TAMPERMAUVE_REPORT_LENGTH], work[TAMPERMAUVE_WORK_LENGTH];
+
+/* for many plans: the plan, a byte that is none, and the plan again */
+enum { PLANS = 3, REFUSED = 1 };
+static uint8_t files[2 * TAMPERMAUVE_FILE_LIMIT + 1], lengths[PLANS * TAMPERMAUVE_LENGTH_BYTES];
+static uint8_t memories[PLANS * TAMPERMAUVE_MEMORY_LENGTH], logs[PLANS * TAMPERMAUVE_LOG_LENGTH];
+static uint8_t reports[PLANS * TAMPERMAUVE_REPORT_LENGTH], answers[PLANS];
+
 static uint32_t returned;
 static uint8_t *stack;
 static uintptr_t top; /* where the caller of the call stands */
@@ -84,6 +92,23 @@ static void *run(void *unused) {
     return unused;
 }
 
+static void *run_all(void *unused) {
+    volatile uint8_t here = 0;
+    top = (uintptr_t)&here;
+    returned = tampermauve_run_all(PLANS, files, sizeof files, lengths, sizeof lengths, memories, sizeof memories, logs, sizeof logs,
+                                   reports, sizeof reports, answers, sizeof answers, work, sizeof work);
+    return unused;
+}
+
+/* Lays the plans back to back. */
+static void write_plans(void) {
+    memcpy(files, file.bytes, TAMPERMAUVE_FILE_LIMIT);
+    memcpy(files + TAMPERMAUVE_FILE_LIMIT + 1, file.bytes, TAMPERMAUVE_FILE_LIMIT);
+    tampermauve_put_length(lengths, 0, TAMPERMAUVE_FILE_LIMIT);
+    tampermauve_put_length(lengths, REFUSED, 1);
+    tampermauve_put_length(lengths, REFUSED + 1, TAMPERMAUVE_FILE_LIMIT);
+}
+
 static void must(int wrong, const char *what) {
     if (wrong) {
         fprintf(stderr, "stack: %s\n", what);
@@ -108,8 +133,17 @@ static size_t used_by(void *(*call)(void *)) {
     return (size_t)(top - (uintptr_t)(stack + lowest));
 }
 
+/* Of many plans the last one, with all before it, came to what the run came to. */
+static void look_at_all(void) {
+    const size_t last = PLANS - 1;
+    must(returned != TAMPERMAUVE_ACCEPTED, "the run of many plans is refused");
+    must(answers[0] != TAMPERMAUVE_ACCEPTED || answers[last] != TAMPERMAUVE_ACCEPTED, "a plan of many is refused");
+    must(answers[REFUSED] != TAMPERMAUVE_BAD_LENGTH, "a plan of a byte is not refused");
+    must(memcmp(reports + last * sizeof report, report, sizeof report) != 0, "the last of many plans has another report");
+}
+
 int main(void) {
-    size_t checked, ran;
+    size_t checked, ran, all;
     void *room = NULL;
     must(posix_memalign(&room, 4096, ROOM), "no memory");
     stack = room;
@@ -120,9 +154,13 @@ int main(void) {
     ran = used_by(run);
     must(returned != TAMPERMAUVE_ACCEPTED, "the run is refused");
     must(report[TAMPERMAUVE_REPORT_END] != TAMPERMAUVE_END_FINISHED, "the plan is not finished");
+    write_plans();
+    all = used_by(run_all);
+    look_at_all();
     free(room);
-    printf("stack: a check uses %lu bytes, a run %lu\n", (unsigned long)checked, (unsigned long)ran);
-    if (checked >= TAMPERMAUVE_STACK_LIMIT || ran >= TAMPERMAUVE_STACK_LIMIT) {
+    printf("stack: a check uses %lu bytes, a run %lu, a run of many plans %lu\n", (unsigned long)checked, (unsigned long)ran,
+           (unsigned long)all);
+    if (checked >= TAMPERMAUVE_STACK_LIMIT || ran >= TAMPERMAUVE_STACK_LIMIT || all >= TAMPERMAUVE_STACK_LIMIT) {
         printf("stack: FAILED: the header says less than %u\n", TAMPERMAUVE_STACK_LIMIT);
         return 1;
     }
