@@ -15,14 +15,6 @@
 static struct host host;
 static uint8_t starting[TAMPERMAUVE_MEMORY_LENGTH];
 
-static int keep(const char *prefix)
-{
-    return host_write_part(prefix, "start", starting, sizeof starting) ||
-           host_write_part(prefix, "memory", host.memory, sizeof host.memory) ||
-           host_write_part(prefix, "log", host.log, sizeof host.log) ||
-           host_write_part(prefix, "report", host.report, sizeof host.report);
-}
-
 int main(int argc, char **argv)
 {
     uint32_t answer;
@@ -30,7 +22,7 @@ int main(int argc, char **argv)
         fprintf(stderr, "approve PLAN PREFIX [MEMORY]\n");
         return 2;
     }
-    if (host_read_plan(&host, argv[1]))
+    if (host_read_plan(argv[1], host.file, &host.file_len))
         return 2;
     if (argc == 4 && host_read(argv[3], host.memory, sizeof host.memory))
         return 2;
@@ -44,6 +36,6 @@ int main(int argc, char **argv)
         host_say_refusal(answer);
         return 1;
     }
-    host_say_report(&host);
-    return keep(argv[2]) ? 2 : 0;
+    host_say_report(host.report);
+    return host_keep(argv[2], starting, host.memory, host.log, host.report) ? 2 : 0;
 }

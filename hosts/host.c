@@ -11,13 +11,13 @@ static int trouble(const char *path, const char *what)
     return 1;
 }
 
-int host_read_plan(struct host *h, const char *path)
+int host_read_plan(const char *path, uint8_t *to, size_t *len)
 {
     FILE *in = fopen(path, "rb");
     int bad;
     if (in == NULL)
         return trouble(path, "cannot be opened");
-    h->file_len = fread(h->file, 1, sizeof h->file, in);
+    *len = fread(to, 1, HOST_FILE_ROOM, in);
     bad = ferror(in);
     fclose(in);
     return bad ? trouble(path, "cannot be read") : 0;
@@ -62,6 +62,15 @@ int host_write_part(const char *prefix, const char *part, const uint8_t *from,
     whole = fwrite(from, 1, len, out) == len;
     whole = fclose(out) == 0 && whole;
     return whole ? 0 : trouble(name, "cannot be written");
+}
+
+int host_keep(const char *prefix, const uint8_t *start, const uint8_t *memory,
+              const uint8_t *log, const uint8_t *report)
+{
+    return host_write_part(prefix, "start", start, TAMPERMAUVE_MEMORY_LENGTH) ||
+           host_write_part(prefix, "memory", memory, TAMPERMAUVE_MEMORY_LENGTH) ||
+           host_write_part(prefix, "log", log, TAMPERMAUVE_LOG_LENGTH) ||
+           host_write_part(prefix, "report", report, TAMPERMAUVE_REPORT_LENGTH);
 }
 
 /* A small generator of numbers (splitmix). */
@@ -121,7 +130,7 @@ uint32_t host_run(struct host *h)
                            h->report, sizeof h->report, h->work, sizeof h->work);
 }
 
-void host_say_refusal(uint32_t answer)
+const char *host_words(uint32_t refusal)
 {
     static const char *const words[] = {
         [TAMPERMAUVE_BAD_LENGTH] = "the file is empty, cut or too long",
@@ -138,13 +147,18 @@ void host_say_refusal(uint32_t answer)
         [TAMPERMAUVE_TOO_MANY_TURNS] = "a turn list too long",
         [TAMPERMAUVE_BAD_TURN] = "a turn that names no worker",
         [TAMPERMAUVE_BAD_SLEEP] = "a sleep record out of order, after a step or out of range",
+        [TAMPERMAUVE_BAD_BATCH] = "a count of plans out of range, or lengths that do not fit it",
     };
-    uint32_t number = tampermauve_refusal(answer);
-    printf("refused %u at record %u: %s\n", (unsigned)number, (unsigned)tampermauve_index(answer),
-           number < sizeof words / sizeof *words ? words[number] : "?");
+    return refusal < sizeof words / sizeof *words && words[refusal] != NULL ? words[refusal] : "?";
 }
 
-void host_say_report(const struct host *h)
+void host_say_refusal(uint32_t answer)
+{
+    uint32_t number = tampermauve_refusal(answer);
+    printf("refused %u at record %u: %s\n", (unsigned)number, (unsigned)tampermauve_index(answer), host_words(number));
+}
+
+void host_say_report(const uint8_t *report)
 {
     static const char *const ends[] = {
         [TAMPERMAUVE_END_GOING] = "going",
@@ -159,7 +173,6 @@ void host_say_report(const struct host *h)
         [TAMPERMAUVE_FATE_AT_BARRIER] = "queued at a barrier",
         [TAMPERMAUVE_FATE_ASLEEP] = "asleep",
     };
-    const uint8_t *report = h->report;
     printf("%s: %u moving turns, %u rounds completed, %u log records\n", ends[report[TAMPERMAUVE_REPORT_END]],
            (unsigned)tampermauve_word(report, TAMPERMAUVE_REPORT_MOVES),
            (unsigned)tampermauve_word(report, TAMPERMAUVE_REPORT_ROUNDS),

@@ -54,7 +54,7 @@ int main(int argc, char **argv)
         fprintf(stderr, "reprint PLAN PREFIX SEED, the seed above 0\n");
         return 2;
     }
-    if (host_read_plan(&host, argv[1]) ||
+    if (host_read_plan(argv[1], host.file, &host.file_len) ||
         host_read_part(argv[2], "start", host.memory, sizeof host.memory))
         return 2;
     answer = tampermauve_check(host.file, host.file_len);
@@ -66,6 +66,6 @@ int main(int argc, char **argv)
         host_say_refusal(answer);
         return 1;
     }
-    host_say_report(&host);
+    host_say_report(host.report);
     return compare_all(argv[2]);
 }

@@ -59,6 +59,7 @@ c_tests() {
     changed "what README.md says that its program prints" README.md 's/^end 0, moving turns 2/end 0, moving turns 3/' '> end 0, moving turns 2' make test-readme
     changed "a constant of the header" include/tampermauve.h 's/8256/8257/' '> refused 11' make test-readme
     changed "a header that is no C++" include/tampermauve.h '$a int class;' 'header.cc.o] Error' make test-header
+    changed "what the host of many plans must print" tests/hosts.sh 's/^refused 14: a sleep/refused 4: a sleep/' 'refused 14: a sleep' make test-hosts
     changed "what a host must print" tests/hosts.sh 's/26 moving turns/27 moving turns/' 'printed: finished: 26' make test-hosts
     fails "a test that does not exist" 'No rule to make target' make test-nothing
 }

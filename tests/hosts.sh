@@ -3,7 +3,7 @@
 # sanitizers, and tests them; the plain ones under valgrind as well.
 #
 # tests/hosts.sh [ARCHIVE] [INCLUDE]
-# ARCHIVE has the library's two calls (default target/staticlib/libtampermauve.a,
+# ARCHIVE has the library's calls (default target/staticlib/libtampermauve.a,
 # `twin` for the engine of bench/twin.c under the library's names); INCLUDE is
 # the folder of tampermauve.h (default include).
 set -eu
@@ -17,13 +17,13 @@ trap 'rm -rf "$work"' EXIT
 
 if [ "$archive" = twin ]; then
     $cc $strict -Dtwin_check=tampermauve_check -Dtwin_run=tampermauve_run \
-        -c bench/twin.c -o "$work/twin.o"
+        -Dtwin_run_all=tampermauve_run_all -c bench/twin.c -o "$work/twin.o"
     archive=$work/twin.o
 fi
 
 build() { # FOLDER FLAGS
     mkdir "$work/$1"
-    for name in approve reprint; do
+    for name in approve reprint print_all; do
         $cc $strict $2 -I "$include" -I hosts hosts/$name.c hosts/host.c \
             "$archive" -o "$work/$1/$name"
     done
@@ -39,6 +39,7 @@ expect() {
     status=$1
     text=$2
     shift 2
+    runs=$((runs + 1))
     got=0
     said=$("$@" 2> "$work/errors") || got=$?
     [ "$got" -eq "$status" ] || fail "$* ended with $got: $(cat "$work/errors")"
@@ -95,6 +96,16 @@ make_plans() {
     head -c 8000 /dev/zero > "$work/long"
 }
 
+# print_all on one plan, so many times.
+many() { # COUNT FOLDER RUNNER...
+    count=$1
+    where=$2
+    shift 2
+    set -- "$@" "$where/print_all"
+    for number in $(seq "$count"); do set -- "$@" "$work/sleeper" "$where/many$number" -; done
+    "$@"
+}
+
 # The word at 255 ends as 2: its low byte counts 256 times.
 workers='finished: 26 moving turns, 3 rounds completed, 11 log records
 worker 0: exited
@@ -113,6 +124,11 @@ slept='finished: 5 moving turns, 2 rounds completed, 3 log records
 worker 0: exited
 worker 1: asleep
 worker 2: exited
+sum of the words at even addresses: 0'
+
+# Arrival, lock and wait.
+waits='stuck: 3 moving turns, 1 rounds completed, 2 log records
+worker 0: waiting on a condition
 sum of the words at even addresses: 0'
 
 # Plans of plans/: each commit moves the sum by what it changes in shared memory.
@@ -154,9 +170,7 @@ report: differs at byte 19, 3 kept, 0 now" "$@" "$where/reprint" "$work/plan" "$
 memory: the same
 log: the same" "$@" "$where/reprint" "$work/plan" "$where/short" 8
     complained "$where/short.report: is not a file of 20 bytes"
-    expect 0 "stuck: 3 moving turns, 1 rounds completed, 2 log records
-worker 0: waiting on a condition
-sum of the words at even addresses: 0" "$@" "$where/approve" "$work/stuck" "$where/stuck"
+    expect 0 "$waits" "$@" "$where/approve" "$work/stuck" "$where/stuck"
     expect 0 "$merged" "$@" "$where/approve" plans/merged-word.plan "$where/merged"
     expect 0 "$merged
 memory: the same
@@ -191,15 +205,92 @@ sum of the words at even addresses: 0" "$@" "$where/approve" "$work/longest" "$w
     expect 2 "" "$@" "$where/reprint" "$work/plan" "$where/kept" 0
 }
 
+# One call for all plans: each from its own memory, the refused ones beside the
+# others. The kept files are those of `approve`.
+test_together() { # FOLDER [RUNNER...]
+    where=$work/$1
+    shift
+    expect 0 "$work/stuck
+$waits" "$@" "$where/print_all" "$work/stuck" "$where/one" -
+    expect 1 "$work/plan
+$report
+$work/refused
+refused 7: an operand out of range
+$work/stuck
+$waits
+$work/long
+refused 1: the file is empty, cut or too long
+$work/plan
+$from_ones
+$work/no_sleeper
+refused 14: a sleep record out of order, after a step or out of range" "$@" "$where/print_all" \
+        "$work/plan" "$where/first" - "$work/refused" "$where/none" - "$work/stuck" "$where/third" - \
+        "$work/long" "$where/none" - "$work/plan" "$where/fifth" "$where/ones" "$work/no_sleeper" "$where/none" "$where/ones"
+    for part in start memory log report; do
+        [ ! -e "$where/none.$part" ] || fail "a refused plan was kept"
+        cmp "$where/third.$part" "$where/stuck.$part" || fail "print_all keeps another $part than approve"
+        cmp "$where/fifth.$part" "$where/more.$part" || fail "print_all keeps another $part than approve"
+    done
+    expect 0 "$report
+memory: the same
+log: the same
+report: the same" "$@" "$where/reprint" "$work/plan" "$where/first" 7
+    expect 0 "$from_ones
+memory: the same
+log: the same
+report: the same" "$@" "$where/reprint" "$work/plan" "$where/fifth" 6
+    expect 1 "$work/refused
+refused 7: an operand out of range
+$work/no_sleeper
+refused 14: a sleep record out of order, after a step or out of range" "$@" "$where/print_all" \
+        "$work/refused" "$where/none" - "$work/no_sleeper" "$where/none" -
+}
+
+# What print_all does not take. Where a plan cannot be read none is run, and
+# where one cannot be kept the others are.
+test_together_trouble() { # FOLDER [RUNNER...]
+    where=$work/$1
+    shift
+    expect 0 "$(for number in $(seq 40); do printf '%s\n' "$work/sleeper" "$slept"; done)" many 40 "$where" "$@"
+    cmp "$where/many40.log" "$where/slept.log" || fail "the fortieth plan is kept otherwise"
+    use='print_all PLAN PREFIX MEMORY [PLAN PREFIX MEMORY ..], for 1 to 40 plans'
+    expect 2 "" many 41 "$where" "$@"
+    complained "$use"
+    expect 2 "" "$@" "$where/print_all"
+    complained "$use"
+    expect 2 "" "$@" "$where/print_all" "$work/plan" "$where/none"
+    complained "$use"
+    expect 2 "" "$@" "$where/print_all" "$work/plan" "$where/none" - "$work/nothing" "$where/none" -
+    complained "$work/nothing: cannot be opened"
+    expect 2 "" "$@" "$where/print_all" "$work/plan" "$where/none" - "$work/stuck" "$where/none" "$work/plan"
+    complained "$work/plan: is not a file of 2048 bytes"
+    [ ! -e "$where/none.start" ] || fail "kept although a file could not be read"
+    expect 2 "$work/stuck
+$waits
+$work/refused
+refused 7: an operand out of range
+$work/sleeper
+$slept" "$@" "$where/print_all" "$work/stuck" "$where/no_folder/none" - "$work/refused" "$where/none" - "$work/sleeper" "$where/last" -
+    complained "$where/no_folder/none.start: cannot be opened"
+    cmp "$where/last.report" "$where/slept.report" || fail "the plan behind the trouble is kept otherwise"
+}
+
+test_all() { # FOLDER [RUNNER...]
+    runs=0
+    test_hosts "$@"
+    test_together "$@"
+    test_together_trouble "$@"
+}
+
 make_plans
 build plain ""
 build sanitized "-fsanitize=address,undefined -fno-sanitize-recover=all"
-test_hosts plain
-test_hosts sanitized
+test_all plain
+test_all sanitized
 if command -v valgrind > /dev/null; then
     rm "$work/plain/kept."*
-    test_hosts plain valgrind --quiet --error-exitcode=9
-    echo "hosts: plain, sanitized and under valgrind as expected"
+    test_all plain valgrind --quiet --error-exitcode=9
+    echo "hosts: $runs runs, plain, sanitized and under valgrind as expected"
 else
-    echo "hosts: plain and sanitized as expected; valgrind is not there"
+    echo "hosts: $runs runs, plain and sanitized as expected; valgrind is not there"
 fi
