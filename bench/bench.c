@@ -1,12 +1,15 @@
 /* Measures the library against the engine written by hand.
  *
  * bench [--passes N] [--csv FILE] [--svg FILE]
- * bench --engine library|twin --set NUMBER     one set once, to be counted
+ * bench --engine library|twin|apart --set NUMBER   one set once, to be counted
  * bench --names                                the sets with their numbers
  *
  * Each pass measures all sets; within a set the library, the twin and the
  * twin once more take turns. The best of all passes counts. The twin against
- * itself says how far a ratio can be trusted. */
+ * itself says how far a ratio can be trusted.
+ *
+ * A set of plans in one call is measured once more, apart: the library with a
+ * call for each plan, each with the turns that end it. */
 #define _POSIX_C_SOURCE 199309L
 
 #include <math.h>
@@ -24,9 +27,11 @@ enum {
     LOG = TAMPERMAUVE_LOG_LENGTH,
     REPORT = TAMPERMAUVE_REPORT_LENGTH,
     WORK = TAMPERMAUVE_WORK_LENGTH,
+    PLANS = TAMPERMAUVE_PLANS_LIMIT,
+    LENGTH = TAMPERMAUVE_LENGTH_BYTES,
     MOST_PASSES = 200
 };
-enum { LIBRARY, TWIN, TWIN_AGAIN, ENGINES };
+enum { LIBRARY, TWIN, TWIN_AGAIN, APART, ENGINES }; /* APART for plans in one call alone */
 
 /* So long is one measurement, in nanoseconds. */
 static const double MEASURE = 2e6;
@@ -35,14 +40,16 @@ struct result {
     double best[ENGINES];           /* ns for all cases of the set */
     double twin_passes[MOST_PASSES];
     unsigned repeats;
-    double units;                   /* turns, or calls where there are none */
+    double units;                   /* turns, plans of one call, or calls */
     const char *unit;
 };
 
 static struct set sets[SETS_MOST];
 static struct result results[SETS_MOST];
 static unsigned set_count;
-static uint8_t memory[MEMORY], log_[LOG], report[REPORT], work[WORK];
+/* Calls for one plan use the first of each. */
+static uint8_t memory[PLANS * MEMORY], log_[PLANS * LOG], report[PLANS * REPORT];
+static uint8_t verdicts[PLANS], work[WORK];
 static volatile uint32_t answers;   /* keeps the calls from being dropped */
 
 static double now(void)
@@ -57,7 +64,7 @@ static uint32_t call(int engine, const struct set_case *c, int check_only)
     if (check_only)
         return engine == LIBRARY ? tampermauve_check(c->file, c->file_len)
                                  : twin_check(c->file, c->file_len);
-    memset(memory, 0, sizeof memory);
+    memset(memory, 0, MEMORY);
     if (engine == LIBRARY)
         return tampermauve_run(c->file, c->file_len, c->turns, c->turns_len,
                                memory, MEMORY, log_, LOG, report, REPORT, work,
@@ -66,55 +73,134 @@ static uint32_t call(int engine, const struct set_case *c, int check_only)
                     MEMORY, log_, LOG, report, REPORT, work, WORK);
 }
 
+/* A call of the library for each plan, on its part of the buffers. */
+static uint32_t call_apart(const struct set *s)
+{
+    uint32_t sum = 0;
+    for (unsigned k = 0; k < s->count; k++) {
+        const struct set_case *c = &s->cases[k];
+        uint32_t answer =
+            tampermauve_run(c->file, c->file_len, c->turns, c->turns_len,
+                            memory + k * MEMORY, MEMORY, log_ + k * LOG, LOG,
+                            report + k * REPORT, REPORT, work, WORK);
+        verdicts[k] = (uint8_t)(answer & 255);
+        sum += answer;
+    }
+    return sum;
+}
+
+/* One call for all plans of a set; all memories are cleared before, whoever runs
+ * them. */
+static uint32_t call_together(int engine, const struct set *s)
+{
+    size_t n = s->count;
+    memset(memory, 0, n * MEMORY);
+    if (engine == APART)
+        return call_apart(s);
+    if (engine == LIBRARY)
+        return tampermauve_run_all(n, s->files, s->files_len, s->lengths,
+                                   n * LENGTH, memory, n * MEMORY, log_, n * LOG,
+                                   report, n * REPORT, verdicts, n, work, WORK);
+    return twin_run_all(n, s->files, s->files_len, s->lengths, n * LENGTH, memory,
+                        n * MEMORY, log_, n * LOG, report, n * REPORT, verdicts,
+                        n, work, WORK);
+}
+
+static int is_together(const struct set *s)
+{
+    return s->files != NULL;
+}
+
 static double measure(int engine, const struct set *s, unsigned repeats)
 {
     double start = now();
-    for (unsigned i = 0; i < repeats; i++)
-        for (unsigned k = 0; k < s->count; k++)
-            answers += call(engine, &s->cases[k], s->check_only);
+    for (unsigned i = 0; i < repeats; i++) {
+        if (is_together(s))
+            answers += call_together(engine, s);
+        else
+            for (unsigned k = 0; k < s->count; k++)
+                answers += call(engine, &s->cases[k], s->check_only);
+    }
     return (now() - start) / repeats;
 }
 
-/* Both engines must agree on a set, and accept it, before it is measured. */
+/* What the calls so far leave, beside work. */
+struct left {
+    uint8_t memory[sizeof memory], log[sizeof log_], report[sizeof report];
+    uint8_t verdicts[sizeof verdicts];
+};
+
+static void keep_left(struct left *l)
+{
+    memcpy(l->memory, memory, sizeof memory);
+    memcpy(l->log, log_, sizeof log_);
+    memcpy(l->report, report, sizeof report);
+    memcpy(l->verdicts, verdicts, sizeof verdicts);
+}
+
+/* Both answers are 0, and the second call left what the first did. */
+static void must_agree(const char *name, unsigned k, uint32_t one, uint32_t other,
+                       const struct left *l)
+{
+    static const uint8_t accepted[PLANS];
+    if (one == 0 && other == 0 && memcmp(l->memory, memory, sizeof memory) == 0 &&
+        memcmp(l->log, log_, sizeof log_) == 0 &&
+        memcmp(l->report, report, sizeof report) == 0 &&
+        memcmp(l->verdicts, verdicts, sizeof verdicts) == 0 &&
+        memcmp(verdicts, accepted, sizeof verdicts) == 0)
+        return;
+    fprintf(stderr, "%s, case %u: answers %u and %u, or other bytes\n", name, k,
+            (unsigned)one, (unsigned)other);
+    exit(1);
+}
+
+/* Both engines must agree on a set, and accept it, before it is measured; and
+ * the calls apart with the one call. */
 static void agree(const struct set *s)
 {
-    static uint8_t first[MEMORY + LOG + REPORT];
-    for (unsigned k = 0; k < s->count; k++) {
-        uint32_t one = call(TWIN, &s->cases[k], s->check_only), other;
-        memcpy(first, memory, MEMORY);
-        memcpy(first + MEMORY, log_, LOG);
-        memcpy(first + MEMORY + LOG, report, REPORT);
-        other = call(LIBRARY, &s->cases[k], s->check_only);
-        if (one != 0 || other != 0 || memcmp(first, memory, MEMORY) != 0 ||
-            memcmp(first + MEMORY, log_, LOG) != 0 ||
-            memcmp(first + MEMORY + LOG, report, REPORT) != 0) {
-            fprintf(stderr, "%s, case %u: answers %u and %u, or other bytes\n",
-                    s->name, k, (unsigned)one, (unsigned)other);
-            exit(1);
-        }
+    static struct left first;
+    uint32_t one;
+    for (unsigned k = 0; k < s->count && !is_together(s); k++) {
+        one = call(TWIN, &s->cases[k], s->check_only);
+        keep_left(&first);
+        must_agree(s->name, k, one, call(LIBRARY, &s->cases[k], s->check_only), &first);
     }
+    if (is_together(s)) {
+        one = call_together(TWIN, s);
+        keep_left(&first);
+        must_agree(s->name, 0, one, call_together(LIBRARY, s), &first);
+        must_agree(s->name, 0, one, call_together(APART, s), &first);
+    }
+}
+
+/* Turns of the set's calls, where any are handed in. */
+static size_t turns_of(const struct set *s)
+{
+    size_t turns = 0;
+    for (unsigned k = 0; k < s->count && !is_together(s); k++)
+        turns += s->cases[k].turns_len;
+    return turns;
 }
 
 static void prepare(const struct set *s, struct result *r)
 {
     double once;
-    size_t turns = 0;
+    size_t turns = turns_of(s);
     agree(s);
     once = measure(TWIN, s, 1);
     r->repeats = once > MEASURE ? 1 : (unsigned)(MEASURE / (once + 1)) + 1;
-    for (unsigned k = 0; k < s->count; k++)
-        turns += s->cases[k].turns_len;
     r->units = turns ? (double)turns : s->count;
-    r->unit = turns ? "turn" : s->check_only ? "check" : "run";
+    r->unit = is_together(s) ? "plan" : turns ? "turn" : s->check_only ? "check" : "run";
     for (int engine = 0; engine < ENGINES; engine++)
         r->best[engine] = HUGE_VAL;
 }
 
 static void pass(const struct set *s, struct result *r, unsigned number)
 {
-    for (int engine = 0; engine < ENGINES; engine++) {
+    int engines = is_together(s) ? ENGINES : APART;
+    for (int engine = 0; engine < engines; engine++) {
         /* The order changes, so that no engine is always the first. */
-        int which = (engine + (int)number) % ENGINES;
+        int which = (engine + (int)number) % engines;
         double took = measure(which, s, r->repeats);
         if (took < r->best[which])
             r->best[which] = took;
@@ -126,6 +212,12 @@ static void pass(const struct set *s, struct result *r, unsigned number)
 static double ratio(const struct result *r)
 {
     return r->best[LIBRARY] / r->best[TWIN];
+}
+
+/* The library's one call by its calls apart. */
+static double one_by_apart(const struct result *r)
+{
+    return r->best[LIBRARY] / r->best[APART];
 }
 
 static double mean_ratio(void)
@@ -154,6 +246,17 @@ static void print_table(void)
                r->unit);
     }
     printf("%-34s %10s %10s %7.3f\n", "geometric mean", "", "", mean_ratio());
+}
+
+static void print_apart(void)
+{
+    for (unsigned i = 0; i < set_count; i++) {
+        const struct result *r = &results[i];
+        if (is_together(&sets[i]))
+            printf("%-34s %10.2f %10.2f %7.3f  plan, by forty calls of the library\n",
+                   sets[i].name, r->best[LIBRARY] / r->units,
+                   r->best[APART] / r->units, one_by_apart(r));
+    }
 }
 
 /* The twin against itself, and how far a usual pass lies above the best. */
@@ -187,12 +290,15 @@ static FILE *open_output(const char *path)
 static void write_csv(const char *path)
 {
     FILE *out = open_output(path);
-    fprintf(out, "set,per,library_ns,twin_ns,ratio,twin_against_itself\n");
+    fprintf(out, "set,per,library_ns,twin_ns,ratio,twin_against_itself,one_call_by_forty\n");
     for (unsigned i = 0; i < set_count; i++) {
         const struct result *r = &results[i];
-        fprintf(out, "\"%s\",%s,%.3f,%.3f,%.4f,%.4f\n", sets[i].name, r->unit,
+        fprintf(out, "\"%s\",%s,%.3f,%.3f,%.4f,%.4f,", sets[i].name, r->unit,
                 r->best[LIBRARY] / r->units, r->best[TWIN] / r->units, ratio(r),
                 r->best[TWIN_AGAIN] / r->best[TWIN]);
+        if (is_together(&sets[i]))
+            fprintf(out, "%.4f", one_by_apart(r));
+        fprintf(out, "\n");
     }
     fclose(out);
 }
@@ -255,7 +361,7 @@ struct options {
 static int bad_use(void)
 {
     fprintf(stderr, "bench [--passes N] [--csv FILE] [--svg FILE]\n"
-                    "bench --engine library|twin --set NUMBER\nbench --names\n");
+                    "bench --engine library|twin|apart --set NUMBER\nbench --names\n");
     return 2;
 }
 
@@ -293,13 +399,19 @@ static int print_names(void)
     return 0;
 }
 
+static int engine_named(const char *name)
+{
+    if (strcmp(name, "apart") == 0)
+        return APART;
+    return strcmp(name, "library") == 0 ? LIBRARY : TWIN;
+}
+
 /* Kept as a function of its own: instructions are counted within it. */
 __attribute__((noinline)) int run_once(const struct options *o);
 
 int run_once(const struct options *o)
 {
-    int engine = strcmp(o->engine, "library") == 0 ? LIBRARY : TWIN;
-    measure(engine, &sets[o->set], 1);
+    measure(engine_named(o->engine), &sets[o->set], 1);
     return answers == 0 ? 0 : 1;
 }
 
@@ -311,6 +423,8 @@ int main(int argc, char **argv)
     set_count = make_sets(sets, o.engine != NULL || o.names ? (int)o.set : ALL_SETS);
     if (o.set >= set_count)
         return bad_use();
+    if (o.engine != NULL && strcmp(o.engine, "apart") == 0 && !is_together(&sets[o.set]))
+        return bad_use();
     if (o.names)
         return print_names();
     if (o.engine != NULL)
@@ -321,6 +435,7 @@ int main(int argc, char **argv)
         for (unsigned i = 0; i < set_count; i++)
             pass(&sets[i], &results[i], number);
     print_table();
+    print_apart();
     print_noise(o.passes);
     if (o.csv != NULL)
         write_csv(o.csv);

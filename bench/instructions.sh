@@ -1,6 +1,7 @@
 #!/bin/sh
 # Counts the instructions of both engines on each set by callgrind; unlike
-# times they repeat.
+# times they repeat. Behind them, for plans in one call, those of the library's
+# one call beside those of its forty.
 #
 # bench/instructions.sh BENCH [CSV]    BENCH is the program of bench/bench.c
 set -eu
@@ -28,3 +29,11 @@ while read -r number name; do
     printf '%-34s %12s %12s %7s\n' "$name" "$library" "$twin" "$ratio"
     echo "\"$name\",$library,$twin,$ratio" >> "$csv"
 done < "$work/names"
+
+grep ' in one call$' "$work/names" | while read -r number name; do
+    one=$(count library "$number" < /dev/null)
+    forty=$(count apart "$number" < /dev/null)
+    ratio=$(echo "$one $forty" | awk '{ printf "%.3f", $1 / $2 }')
+    printf '%-34s %12s %12s %7s  by forty calls\n' "$name" "$one" "$forty" "$ratio"
+    echo "\"$name by forty calls\",$one,$forty,$ratio" >> "$csv"
+done

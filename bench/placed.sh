@@ -1,7 +1,8 @@
 #!/bin/sh
 # Times hang on where the linker puts the code. Links the measuring program four
 # times, both engines' code 16 bytes further each time, measures each of them,
-# and prints the least, the middle and the greatest ratio of every set.
+# and prints the least, the middle and the greatest ratio of every set; behind
+# them those of one call by forty calls, of the library alone.
 #
 # bench/placed.sh LIBRARY [PASSES [CSV [SVG]]]    the picture is of the second placement
 set -eu
@@ -24,15 +25,24 @@ done
 
 cat "$work/32.svg" > "$svg"
 
-# a line for each set and shift: the ratio, then the name
+# a line for each set and shift: the ratio, then the name; and the same of one call by forty
 tail -q -n +2 "$work"/*.csv | sed 's/^"\(.*\)",[^,]*,[^,]*,[^,]*,\([^,]*\),.*/\2 \1/' > "$work/ratios"
+tail -q -n +2 "$work"/*.csv | sed -n 's/^"\(.*\)",.*,\([0-9.][0-9.]*\)$/\2 \1/p' > "$work/forty"
 echo "set,least,middle,greatest" > "$csv"
 printf '%-34s %7s %7s %9s\n' set least middle greatest
-tail -n +2 "$work/16.csv" | sed 's/^"\(.*\)",.*/\1/' | while read -r name; do
-    grep -F " $name" "$work/ratios" | awk -v name="$name" 'substr($0, index($0, " ") + 1) == name { print $1 }' |
-        sort -n | tr '\n' ' ' | awk -v name="$name" -v csv="$csv" '
-            { middle = ($2 + $3) / 2
-              printf "%-34s %7.2f %7.2f %9.2f\n", name, $1, middle, $4
-              printf "\"%s\",%.3f,%.3f,%.3f\n", name, $1, middle, $4 >> csv }'
-done | tee "$work/table"
+tail -n +2 "$work/16.csv" | sed 's/^"\(.*\)",.*/\1/' > "$work/names"
+
+# A row for each name of standard input.
+table() { # RATIOS REMARK
+    while read -r name; do
+        awk -v name="$name" 'substr($0, index($0, " ") + 1) == name { print $1 }' "$1" |
+            sort -n | tr '\n' ' ' | awk -v name="$name" -v csv="$csv" -v remark="$2" '
+                { middle = ($2 + $3) / 2
+                  printf "%-34s %7.2f %7.2f %9.2f%s\n", name, $1, middle, $4, remark
+                  printf "\"%s%s\",%.3f,%.3f,%.3f\n", name, remark, $1, middle, $4 >> csv }'
+    done
+}
+
+table "$work/ratios" "" < "$work/names" | tee "$work/table"
 awk '{ sum += log($(NF - 1)) } END { printf "geometric mean of the middle ones: %.2f\n", exp(sum / NR) }' "$work/table"
+grep ' in one call$' "$work/names" | table "$work/forty" " by forty calls"

@@ -7,6 +7,7 @@
 #include "twin.h"
 
 enum { RECORD = TAMPERMAUVE_RECORD_LENGTH, WORKERS = TAMPERMAUVE_WORKERS_LIMIT, STEPS = TAMPERMAUVE_STEPS_LIMIT };
+enum { PLANS = TAMPERMAUVE_PLANS_LIMIT };
 
 /* The ops, by short names. */
 enum {
@@ -77,6 +78,8 @@ static struct set *new_set(const char *name)
     s->name = name;
     s->check_only = 0;
     s->count = 0;
+    s->files = NULL;
+    s->files_len = 0;
     return s;
 }
 
@@ -444,6 +447,71 @@ static void check_sets(void)
     all[made - 2].check_only = 1;
 }
 
+/* --- Many plans in one call ---------------------------------------------- */
+
+/* Lays the files of a set's cases back to back, each with the turns that end it
+ * in a call of its own. */
+static void join(struct set *s)
+{
+    s->files = room(s->count * (size_t)SET_FILE);
+    for (unsigned k = 0; k < s->count; k++) {
+        struct set_case *c = &s->cases[k];
+        cycles(c);
+        memcpy(s->files + s->files_len, c->file, c->file_len);
+        s->files_len += c->file_len;
+        tampermauve_put_length(s->lengths, k, (uint32_t)c->file_len);
+    }
+}
+
+/* Two to six workers, each with a few parts: some amounts of its own are added
+ * up, the common one under a lock, and all meet before the next part. */
+static void typical_plan(struct set *s)
+{
+    unsigned workers = 2 + below(5), parts = 1 + below(4);
+    struct set_case *c = new_case(s, workers, workers);
+    for (unsigned i = 0; i < workers * parts; i++) {
+        unsigned worker = i / parts, own = 2 * below(1023);
+        put(c, worker, LOAD, 0, own);
+        put(c, worker, SET_TO, 1, below(500));
+        put(c, worker, ADD, 0, 1);
+        put(c, worker, SKIP_ZERO, 0, 1);
+        put(c, worker, STORE, 0, own);
+        put(c, worker, LOCK, 0, below(4));
+        put(c, worker, LOAD, 2, 0);
+        put(c, worker, ADD, 2, 0);
+        put(c, worker, STORE, 2, 0);
+        put(c, worker, UNLOCK, 0, below(4));
+        put(c, worker, BARRIER, 0, i % parts);
+    }
+}
+
+/* Case 1 of document 01. */
+static void small_plan(struct set *s)
+{
+    struct set_case *c = new_case(s, 2, 0);
+    for (unsigned worker = 0; worker < 2; worker++) {
+        put(c, worker, LOAD, 0, worker == 0 ? 2 : 0);
+        put(c, worker, SKIP_NONZERO, 0, 2);
+        put(c, worker, SET_TO, 1, 1);
+        put(c, worker, STORE, 1, worker == 0 ? 0 : 2);
+    }
+}
+
+static void together_sets(void)
+{
+    struct set *typical = new_set("forty typical plans in one call");
+    struct set *longest = new_set("forty longest files in one call");
+    struct set *small = new_set("forty small plans in one call");
+    for (unsigned k = 0; k < PLANS; k++) {
+        typical_plan(typical);
+        mixed_steps(new_case(longest, WORKERS, 8));
+        small_plan(small);
+    }
+    join(typical);
+    join(longest);
+    join(small);
+}
+
 unsigned make_sets(struct set *sets, int only)
 {
     all = sets;
@@ -465,5 +533,6 @@ unsigned make_sets(struct set *sets, int only)
     long_sets();
     check_sets();
     sleepers_check_set();
+    together_sets();
     return made;
 }

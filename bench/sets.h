@@ -17,12 +17,16 @@ struct set_case {
     size_t turns_len;
 };
 
-/* Calls that are measured together. */
+/* Calls that are measured together. Or one call for all cases, whose files stand
+ * back to back in `files` then; `files` is NULL in every other set. */
 struct set {
     const char *name;
     int check_only;
     unsigned count;
     struct set_case cases[SET_CASES];
+    uint8_t *files;
+    size_t files_len;
+    uint8_t lengths[SET_CASES * TAMPERMAUVE_LENGTH_BYTES];
 };
 
 /* Fills in the sets and gives their count. Turn lists that are costly to find
