@@ -4,10 +4,12 @@
 # difference, and the engine without a fault must pass. A table that has lost
 # a fault is refused. Prints `N of N caught`.
 #
-# tests/mutants.sh [COUNT]   random calls for each fault (default 4000)
+# tests/mutants.sh [COUNT [NAMES]]   random calls for each fault (default 4000);
+# NAMES is a regular expression for the faults that are tried (default all)
 set -u
 cd "$(dirname "$0")/.."
 count=${1:-4000}
+names=${2:-.}
 test_dir=tests/differential
 program=$test_dir/target/release/differential
 mutate=$test_dir/target/release/mutate
@@ -17,7 +19,8 @@ trap 'rm -rf "$work"' EXIT
 
 (cd "$test_dir" && cargo build --release --offline --quiet) || exit 2
 cp bench/twin.h "$work/" || exit 2
-"$mutate" "$test_dir/mutants" bench/twin.c "$work" > "$work/names" || exit 2
+"$mutate" "$test_dir/mutants" bench/twin.c "$work" > "$work/all" || exit 2
+grep -E -- "$names" "$work/all" > "$work/names"
 
 compile() {
     "$cc" -std=c99 -O1 -w -shared -fPIC -I "$work" "$1" -o "$2"
