@@ -91,7 +91,8 @@ pub record RoundBegun (n : ℕ) (fates : List ℕ) (can : List Bool) (memory : L
   pub sum : t .sum ≡ sumOf memory
   pub marks : can′ ≡ raised (awake n fates) can
 
--- the turns that a run to the end chooses from: as many of each worker as its stretch has, worker after worker
+-- the turns that a run to the end chooses from: where each worker's stretch begins. That the rest of it is that worker's too makes the run
+-- fast, and is not asked for.
 pub record Stretches (turns : List ℕ) : Type 0 where
   pub size : length turns ≡ stretch * workersLimit
   pub first : (w : ℕ) → w < workersLimit → getD turns (stretch * w) 0 ≡ w

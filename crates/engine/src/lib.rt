@@ -1,4 +1,4 @@
-// The engine: the moves of the workers, and a list of turns.
+// The engine: the moves of the workers, and a list of turns or a run to the end.
 pub mod hold;
 pub mod onward;
 pub mod own;

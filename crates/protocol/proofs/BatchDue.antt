@@ -2,7 +2,7 @@
 use Prim.Native.Nat.{ℕ, _*_, _≤_}
 use mathlib.Core.Bool.{Bool, false, not, _||_, false≢true}
 use mathlib.Core.Path.{_≡_, sym, _∙_}
-use mathlib.Core.List.{List, []}
+use mathlib.Core.List.{List, [], _∷_}
 use lib.Dec.{ltb, eqb}
 use lib.ListN.{length}
 use borrow.Author.Tests.{ltb-false, le-ltb, eqb-false, not-true, eq-eqb}
@@ -10,9 +10,9 @@ use Rattle.protocol.specs.Refusals.{badBuffer, badBatch, accepted, holds
 use Rattle.protocol.specs.Calls.{memoryLength, logLength, reportLength, workLength}
 use Rattle.protocol.specs.Batch.{Batch, plansLimit, lengthBytes, beginsAt, unevenBy, uneven, batchVerdict}
 use Rattle.protocol.specs.WellFormed.{EvenlyLent}
-use Rattle.protocol.specs.Conditions.{batchTests, FirstDue}
+use Rattle.protocol.specs.Conditions.{test, batchTests, FirstDue}
 use Rattle.protocol.proofs.Bools.{or-left, or-right}
-use Rattle.protocol.proofs.Covered.{nothing-due, covers-none, covers}
+use Rattle.protocol.proofs.Covered.{nothing-due, Covers, covers-none, covers}
 use Rattle.protocol.proofs.FirstDue.{same-length}
 
 -- what the lengths of the buffers come to
@@ -61,7 +61,15 @@ module _ (count lengths memories logs reports answers : ℕ) where
 
   pub by-even : EvenBy count lengths memories logs reports answers → unevenBy count lengths memories logs reports answers ≡ false
   by-even f =
-      simp (le-ltb count 1 (f .least), le-ltb plansLimit count (f .most), eq-eqb _ _ (f .lengthsFit), eq-eqb _ _ (f .memoriesFit), eq-eqb _ _ (f .logsFit), eq-eqb _ _ (f .reportsFit), eq-eqb _ _ (f .answersFit))
+      simp (
+        le-ltb count 1 (f .least),
+        le-ltb plansLimit count (f .most),
+        eq-eqb _ _ (f .lengthsFit),
+        eq-eqb _ _ (f .memoriesFit),
+        eq-eqb _ _ (f .logsFit),
+        eq-eqb _ _ (f .reportsFit),
+        eq-eqb _ _ (f .answersFit),
+      )
 
 module _ (count : ℕ) (files lengths : List ℕ) (b : Batch) where
   abbrev amiss : Bool
@@ -96,4 +104,9 @@ module _ (count : ℕ) (files lengths : List ℕ) (b : Batch) where
       covers (not (eqb (length (b .work)) workLength)) badBuffer (refuseIf amiss badBatch holds) {c = length (b .work) ≡ workLength → ⊥}
       (λ e same. eqb-false (length (b .work)) workLength (not-true _ e) same)
       (λ e other. other (same-length _ _ e))
-      (λ e. covers amiss badBatch holds {c = EvenlyLent count files lengths b → ⊥} (λ f even. false≢true (sym (not-amiss even) ∙ f)) (λ f other. other (evenly-lent f)) (λ f. covers-none 0)) .decides [] accepted nothing-due
+      (λ e. by-lengths) .decides [] accepted nothing-due
+    where
+      by-lengths : Covers (test badBatch 0 (EvenlyLent count files lengths b → ⊥) ∷ []) (refuseIf amiss badBatch holds) 0
+      by-lengths =
+          covers amiss badBatch holds {c = EvenlyLent count files lengths b → ⊥} (λ f even. false≢true (sym (not-amiss even) ∙ f)) (λ f other. other (evenly-lent f))
+          (λ f. covers-none 0)

@@ -1,5 +1,5 @@
--- Many plans in one call: what the separate call of a plan leaves, and that each accepted plan is run to its end. Callers want
--- `separate-accepted`, `separate-refused` and `each-to-its-end`.
+-- Many plans in one call: what the separate call of a plan leaves, that each accepted plan is run to its end, and that a refused one's
+-- parts are untouched. Callers want `separate-accepted`, `separate-refused`, `alike` and `each-left`.
 use Prim.Native.Nat.{ℕ, zero, suc, _+_, _*_, _<_, _≤_}
 use native.Mathlib.Decide.{ℕ-discrete}
 use native.Mathlib.Omega.{arith}
@@ -15,7 +15,7 @@ use Rattle.protocol.specs.Calls.{Buffers, Reply, memoryLength, logLength
 use Rattle.protocol.specs.Listing.{turnsBy}
 use Rattle.protocol.specs.Batch.{Batch, fileAt, partAt, partsOf, answerOf, leftBy, separate, runPlans}
 use Rattle.protocol.specs.WellFormed.{Fitting, EvenlyLent}
-use Rattle.protocol.specs.Demands.{EachToItsEnd}
+use Rattle.protocol.specs.Demands.{PlanLeft, EachLeft}
 use Rattle.protocol.proofs.Accepted.{sound-file}
 use Rattle.protocol.proofs.Numbered.{numbered}
 use Rattle.protocol.proofs.FirstDue.{fits-not}
@@ -60,17 +60,40 @@ pub record Separately (file : List ℕ) (b : Buffers) (r : Reply) : Type 0 where
   pub cleared : b .work ≡ replicate workLength 0 → r .buffers .work ≡ replicate workLength 0
   pub ended : answerOf (r .returned) ≡ 0 → r .buffers ≡ endOfPlan file (b .memory)
   pub kept : (answerOf (r .returned) ≡ 0 → ⊥) → r .buffers ≡ b
+  pub left : PlanLeft file b (r .buffers) (answerOf (r .returned))
 
 pub separately : (file : List ℕ) (b : Buffers) → Fitting b → Separately file b (separate file b)
 separately file b fits = go (check file) refl
   where
+    clashes : {A : Type 0} {f : Refusal} {i : ℕ} → check file ≡ accepted → check file ≡ refused f i → A
+    clashes {A} {f} {i} e g = absurd (omega (arith, ap codeOf (sym e ∙ g), numbered f .0))
+
+    numbered-by : Verdict → ℕ
+    numbered-by accepted = 0
+    numbered-by (refused f i) = numberOf f
+
     go : (v : Verdict) → check file ≡ v → Separately file b (separate file b)
     go accepted e =
         subst⁻¹ (λ (r : Reply). Separately file b r) (separate-accepted file b fits e)
-        (record { fits = ends-fit file b fits e; cleared = λ z. refl; ended = λ z. refl; kept = λ n. absurd (n refl) })
+        (record {
+          fits = ends-fit file b fits e;
+          cleared = λ z. refl;
+          ended = λ z. refl;
+          kept = λ n. absurd (n refl);
+          left = record { ended = λ f. (refl, refl); untouched = λ f i g. clashes e g };
+        })
     go (refused f i) e =
         subst⁻¹ (λ (r : Reply). Separately file b r) (separate-refused file b fits f i e)
-        (record { fits = fits; cleared = λ z. z; ended = λ z. absurd (omega (arith, numbered f .0, answer-number f i, z)); kept = λ n. refl })
+        (record {
+          fits = fits;
+          cleared = λ z. z;
+          ended = λ z. absurd (omega (arith, numbered f .0, answer-number f i, z));
+          kept = λ n. refl;
+          left = record {
+            ended = λ g. clashes g e;
+            untouched = λ g j h. (answer-number f i ∙ ap numbered-by (sym e ∙ h), refl, refl, refl);
+          };
+        })
 
 -- what work holds at first does not matter
 pub record Alike (r s : Reply) : Type 0 where
@@ -165,63 +188,113 @@ module _ {count : ℕ} {d : Batch} (sized : Sized count d) (k : ℕ) (l : k < co
 
 -- ---- plan after plan
 
+-- what plan m is lent, work aside, is the same in both
+record Untouched (b d : Batch) (m : ℕ) : Type 0 where
+  pub memory : partAt memoryLength m (d .memories) ≡ partAt memoryLength m (b .memories)
+  pub log : partAt logLength m (d .logs) ≡ partAt logLength m (b .logs)
+  pub report : partAt reportLength m (d .reports) ≡ partAt reportLength m (b .reports)
+
 record RanSoFar (files lengths : List ℕ) (count : ℕ) (b : Batch) (k : ℕ) (d : Batch) : Type 0 where
   pub sized : Sized count d
-  -- the memories of later plans are as they were lent
-  pub untouched : (m : ℕ) → k ≤ m → partAt memoryLength m (d .memories) ≡ partAt memoryLength m (b .memories)
-  pub ended : (m : ℕ) → m < k → getD (d .answers) m 0 ≡ 0 → partsOf m d ≡ endOfPlan (fileAt files lengths m) (partAt memoryLength m (b .memories))
+  -- the parts of later plans are as they were lent
+  pub untouched : (m : ℕ) → k ≤ m → Untouched b d m
+  pub left : (m : ℕ) → m < k → PlanLeft (fileAt files lengths m) (partsOf m b) (partsOf m d) (getD (d .answers) m 0)
 
 module _ (files lengths : List ℕ) (count : ℕ) (b : Batch) where
-  one-more : (k : ℕ) (d : Batch) → k < count → RanSoFar files lengths count b k d
-      → RanSoFar files lengths count b (suc k) (leftBy k (separate (fileAt files lengths k) (partsOf k d)) d)
-  one-more k d l so =
-      record {
-        sized = left-sized (so .sized) k l r (alone .fits);
-        untouched = λ m h. left-memory (so .sized) k l r (alone .fits) m (λ e. omega arith) ∙ so .untouched m (omega arith);
-        ended = λ m h z. go m h z (ℕ-discrete m k);
+  module _ (k : ℕ) (d : Batch) (l : k < count) (so : RanSoFar files lengths count b k d) where
+    abbrev r : Reply
+    r = separate (fileAt files lengths k) (partsOf k d)
+
+    abbrev after : Batch
+    after = leftBy k r d
+
+    alone : Separately (fileAt files lengths k) (partsOf k d) (separate (fileAt files lengths k) (partsOf k d))
+    alone = separately (fileAt files lengths k) (partsOf k d) (parts-fit (so .sized) k l)
+
+    -- the parts of plan k itself
+    mine : partsOf k (leftBy k (separate (fileAt files lengths k) (partsOf k d)) d) ≡ separate (fileAt files lengths k) (partsOf k d) .buffers
+    mine = left-mine (so .sized) k l r (alone .fits)
+
+    answered : getD (set (d .answers) k (answerOf (separate (fileAt files lengths k) (partsOf k d) .returned))) k 0
+        ≡ answerOf (separate (fileAt files lengths k) (partsOf k d) .returned)
+    answered = getD-set-same (d .answers) k (answerOf (r .returned)) 0 (omega (arith, so .sized .answers))
+
+    this-left : PlanLeft (fileAt files lengths k) (partsOf k b) (partsOf k (leftBy k (separate (fileAt files lengths k) (partsOf k d)) d))
+        (getD (set (d .answers) k (answerOf (separate (fileAt files lengths k) (partsOf k d) .returned))) k 0)
+    this-left = record {
+      ended = λ e.
+          let (zero-answer, same) = alone .left .ended e in
+          (answered ∙ zero-answer, mine ∙ (same ∙ ap (λ (x : List ℕ). endOfPlan (fileAt files lengths k) x) (before .memory)));
+      untouched = λ f i e.
+          let (number, memory, log, report) = alone .left .untouched f i e in (
+            answered ∙ number,
+            ap (λ (x : Buffers). x .memory) mine ∙ (memory ∙ before .memory),
+            ap (λ (x : Buffers). x .log) mine ∙ (log ∙ before .log),
+            ap (λ (x : Buffers). x .report) mine ∙ (report ∙ before .report),
+          );
+    }
+      where
+        before : Untouched b d k
+        before = so .untouched k (omega arith)
+
+    -- those of another plan
+    module _ (m : ℕ) (other : m ≡ k → ⊥) where
+      parts-stay : Untouched d (leftBy k (separate (fileAt files lengths k) (partsOf k d)) d) m
+      parts-stay =
+          let same = left-other (so .sized) k l r (alone .fits) m other in
+          record {
+            memory = ap (λ (x : Buffers). x .memory) same;
+            log = ap (λ (x : Buffers). x .log) same;
+            report = ap (λ (x : Buffers). x .report) same;
+          }
+
+      that-left : m < k
+          → PlanLeft (fileAt files lengths m) (partsOf m b) (partsOf m (leftBy k (separate (fileAt files lengths k) (partsOf k d)) d))
+          (getD (set (d .answers) k (answerOf (separate (fileAt files lengths k) (partsOf k d) .returned))) m 0)
+      that-left h = record {
+        ended = λ e.
+            let (zero-answer, same) = so .left m h .ended e in
+            let zeros = ap (λ (x : Buffers). x .work) same in (
+              stays ∙ zero-answer,
+              left-other (so .sized) k l r (alone .fits) m other
+                  ∙ (ap (λ (x : List ℕ). record { memory = partAt memoryLength m (d .memories); log = partAt logLength m (d .logs); report = partAt reportLength m (d .reports); work = x })
+                  (alone .cleared zeros ∙ sym zeros) ∙ same),
+            );
+        untouched = λ f i e.
+            let (number, memory, log, report) = so .left m h .untouched f i e in
+            (stays ∙ number, parts-stay .memory ∙ memory, parts-stay .log ∙ log, parts-stay .report ∙ report);
       }
-    where
-      r : Reply
-      r = separate (fileAt files lengths k) (partsOf k d)
-
-      alone : Separately (fileAt files lengths k) (partsOf k d) r
-      alone = separately (fileAt files lengths k) (partsOf k d) (parts-fit (so .sized) k l)
-
-      after : Batch
-      after = leftBy k r d
-
-      go : (m : ℕ) → m < suc k → getD (after .answers) m 0 ≡ 0 → Dec (m ≡ k)
-          → partsOf m after ≡ endOfPlan (fileAt files lengths m) (partAt memoryLength m (b .memories))
-      go m h z (yes e) =
-          subst⁻¹ (λ (i : ℕ). partsOf i after ≡ endOfPlan (fileAt files lengths i) (partAt memoryLength i (b .memories))) e
-          (left-mine (so .sized) k l r (alone .fits)
-          ∙ (alone .ended answered ∙ ap (λ (x : List ℕ). endOfPlan (fileAt files lengths k) x) (so .untouched k (omega arith))))
         where
-          answered : answerOf (r .returned) ≡ 0
-          answered =
-              sym (getD-set-same (d .answers) k (answerOf (r .returned)) 0 (omega (arith, so .sized .answers)))
-              ∙ (ap (λ (i : ℕ). getD (after .answers) i 0) (sym e) ∙ z)
-      go m h z (no other) =
-          left-other (so .sized) k l r (alone .fits) m other
-          ∙ (ap (λ (x : List ℕ). record { memory = partAt memoryLength m (d .memories); log = partAt logLength m (d .logs); report = partAt reportLength m (d .reports); work = x }) (alone .cleared zero-work ∙ sym zero-work)
-          ∙ there)
-        where
-          there : partsOf m d ≡ endOfPlan (fileAt files lengths m) (partAt memoryLength m (b .memories))
-          there = so .ended m (omega arith) (sym (getD-set-other (d .answers) k m (answerOf (r .returned)) 0 other) ∙ z)
+          stays : getD (set (d .answers) k (answerOf (r .returned))) m 0 ≡ getD (d .answers) m 0
+          stays = getD-set-other (d .answers) k m (answerOf (r .returned)) 0 other
 
-          zero-work : d .work ≡ replicate workLength 0
-          zero-work = ap (λ (x : Buffers). x .work) there
+    one-more : RanSoFar files lengths count b (suc k) (leftBy k (separate (fileAt files lengths k) (partsOf k d)) d)
+    one-more =
+        record {
+          sized = left-sized (so .sized) k l r (alone .fits);
+          untouched = λ m h.
+              let stay = parts-stay m (λ e. omega arith) in
+              let before = so .untouched m (omega arith) in
+              record { memory = stay .memory ∙ before .memory; log = stay .log ∙ before .log; report = stay .report ∙ before .report };
+          left = λ m h. go m h (ℕ-discrete m k);
+        }
+      where
+        go : (m : ℕ) → m < suc k → Dec (m ≡ k) → PlanLeft (fileAt files lengths m) (partsOf m b) (partsOf m after) (getD (after .answers) m 0)
+        go m h (yes e) =
+            subst⁻¹ (λ (i : ℕ). PlanLeft (fileAt files lengths i) (partsOf i b) (partsOf i after) (getD (after .answers) i 0)) e this-left
+        go m h (no other) = that-left m other (omega arith)
 
   all-ran : Sized count b → (k : ℕ) → k ≤ count → RanSoFar files lengths count b k (runPlans files lengths k b)
   unfolding runPlans
-  all-ran sized zero h = record { sized = sized; untouched = λ m l. refl; ended = λ m l. absurd (omega arith) }
+  all-ran sized zero h =
+      record { sized = sized; untouched = λ m l. record { memory = refl; log = refl; report = refl }; left = λ m l. absurd (omega arith) }
   all-ran sized (suc k) h = one-more k (runPlans files lengths k b) h (all-ran sized k (omega arith))
 
   pub plans-sized : Sized count b → (k : ℕ) → k ≤ count → Sized count (runPlans files lengths k b)
   plans-sized sized k h = all-ran sized k h .sized
 
-  pub each-to-its-end : EvenlyLent count files lengths b → length (b .work) ≡ workLength → EachToItsEnd count files lengths b (runPlans files lengths count b)
-  each-to-its-end even work =
+  pub each-left : EvenlyLent count files lengths b → length (b .work) ≡ workLength → EachLeft count files lengths b (runPlans files lengths count b)
+  each-left even work =
       all-ran
       (record { memories = even .memoriesFit; logs = even .logsFit; reports = even .reportsFit; answers = even .answersFit; work = work })
-      count (omega arith) .ended
+      count (omega arith) .left

@@ -1,4 +1,4 @@
--- Document 01, "Calls and buffers": what the two host calls return, and what a run leaves in the buffers lent to it.
+-- Document 01, "Calls and buffers": what the host calls that check and run one file return, and what a run leaves in the buffers lent to it.
 use Prim.Native.Nat.{ℕ, _-_}
 use mathlib.Core.Bool.{Bool, not, _||_}
 use mathlib.Core.List.{List, _++_}

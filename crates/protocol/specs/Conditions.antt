@@ -9,8 +9,8 @@ use mathlib.Core.Option.{some}
 use lib.ListN.{length, getD}
 use Rattle.protocol.specs.Ops.{opPlanRecord, opBarrier, opStart}
 use Rattle.protocol.specs.Format.{Record, Row, recordLength, fileLimit, planMark, recordCount, records, planOf, rowOf, isBarrier, isSleep, isStep, isSkip, workersIn, stepsLimit}
-use Rattle.protocol.specs.Refusals.{Refusal, badLength, badMark, badPlan, badBarrier, badWorker, badOp, badOperand, tooManySteps, noSize, skipTooFar, badBuffer, tooManyTurns, badTurn, badSleep, badBatch}
-use Rattle.protocol.specs.Refusals.{Verdict, accepted, refused}
+use Rattle.protocol.specs.Refusals.{Refusal, badLength, badMark, badPlan, badBarrier, badWorker, badOp, badOperand, tooManySteps, noSize, skipTooFar}
+use Rattle.protocol.specs.Refusals.{badBuffer, tooManyTurns, badTurn, badSleep, badBatch, Verdict, accepted, refused}
 use Rattle.protocol.specs.Turns.{workersOf}
 use Rattle.protocol.specs.Calls.{Buffers, workLength, turnsLimit}
 use Rattle.protocol.specs.Batch.{Batch}

@@ -7,13 +7,14 @@ use mathlib.Core.List.{List, [], _∷_, _++_}
 use lib.Dec.{eqb}
 use lib.ListN.{length, getD, replicate}
 use Rattle.protocol.specs.Format.{word, longAt, Plan, planOf}
+use Rattle.protocol.specs.Refusals.{Refusal, numberOf, accepted, refused, check}
 use Rattle.protocol.specs.Rounds.{Entry}
 use Rattle.protocol.specs.Turns.{workersOf, start, movingTurns, ended}
 use Rattle.protocol.specs.RoundRun.{moveLimit, roundRun}
 use Rattle.protocol.specs.Sum.{sumOf, keptSum}
 use Rattle.protocol.specs.Report.{logBytes}
-use Rattle.protocol.specs.Calls.{Buffers, buffersOf, memoryLength, logLength, playedFrom}
-use Rattle.protocol.specs.Batch.{Batch, fileAt, partAt, partsOf}
+use Rattle.protocol.specs.Calls.{Buffers, buffersOf, logLength, playedFrom}
+use Rattle.protocol.specs.Batch.{Batch, fileAt, partsOf}
 
 -- "A whole cycle is n turns, one right behind the other, that name each of the n workers once"
 unfoldable pub occurs : ℕ → List ℕ → ℕ
@@ -73,9 +74,17 @@ SumKept plan memory turns = keptSum plan (start plan memory) (sumOf memory) turn
 abbrev pub SumShown : Buffers → Type 0
 SumShown left = longAt (left .report) 16 ≡ sumOf (left .memory)
 
--- Four: "Each is run with whole cycles to its end": what an accepted plan leaves in its parts is what the round-by-round run leaves, from
--- its own memory as it was lent
-abbrev pub EachToItsEnd : ℕ → List ℕ → List ℕ → Batch → Batch → Type 0
-EachToItsEnd count files lengths before after =
-    (k : ℕ) → k < count → getD (after .answers) k 0 ≡ 0
-    → partsOf k after ≡ buffersOf (roundRun (planOf (fileAt files lengths k)) (partAt memoryLength k (before .memories)))
+-- Four, of one plan's parts, as lent and as left, and of its answer
+pub record PlanLeft (file : List ℕ) (before after : Buffers) (answer : ℕ) : Type 0 where
+  -- "Each is run with whole cycles to its end": an accepted plan leaves what the round-by-round run leaves, from its own memory
+  pub ended : check file ≡ accepted → (answer ≡ 0) × (after ≡ buffersOf (roundRun (planOf file) (before .memory)))
+  -- "or the refusal number, and that plan's own parts are untouched"
+  pub untouched :
+      (f : Refusal) (i : ℕ)
+      → check file ≡ refused f i
+      → (answer ≡ numberOf f) × (after .memory ≡ before .memory) × (after .log ≡ before .log) × (after .report ≡ before .report)
+
+-- .. and of every plan of an accepted call
+abbrev pub EachLeft : ℕ → List ℕ → List ℕ → Batch → Batch → Type 0
+EachLeft count files lengths before after =
+    (k : ℕ) → k < count → PlanLeft (fileAt files lengths k) (partsOf k before) (partsOf k after) (getD (after .answers) k 0)

@@ -20,7 +20,7 @@ pub mod RoundRun
 pub mod Sum
 -- "Log and report": both as bytes.
 pub mod Report
--- "Calls and buffers": what the two host calls return and leave.
+-- "Calls and buffers": what the calls for one file return and leave.
 pub mod Calls
 -- Case 1: the listing program's turns and text.
 pub mod Listing
@@ -30,5 +30,5 @@ pub mod Batch
 pub mod WellFormed
 -- "Who can cause which refusal" as a description: each refusal's condition, and the order of the tests.
 pub mod Conditions
--- Demand 3.
+-- Demand 3; and what the sum (Three) and many plans (Four) are to show.
 pub mod Demands

@@ -10,10 +10,10 @@ use Rattle.protocol.specs.Refusals.{Verdict, accepted, refused, codeOf}
 use Rattle.protocol.specs.Calls.{workLength}
 use Rattle.protocol.specs.Batch.{Batch, BatchReply, beginsAt, uneven, batchBy, batchVerdict, batchReply, runPlans, runAll}
 use Rattle.protocol.specs.WellFormed.{EvenlyLent}
-use Rattle.protocol.specs.Demands.{EachToItsEnd}
+use Rattle.protocol.specs.Demands.{EachLeft}
 use Rattle.protocol.proofs.FirstDue.{same-length}
 use Rattle.protocol.proofs.BatchDue.{evenly-lent}
-use Rattle.protocol.proofs.Batches.{each-to-its-end}
+use Rattle.protocol.proofs.Batches.{each-left}
 use Rattle.tampermauve.specs.All.{batch, sizesOf, batchCode, RanPlans, RanAll}
 use Rattle.tampermauve.proofs.Admitting.{none-refused}
 
@@ -41,7 +41,7 @@ module _ (count : ℕ) (files lengths : List ℕ) (b : Batch) where
   -- refused: nothing is touched
   pub refused-all : (r : ℕ) → r ≡ code → (r ≡ 0 → ⊥) → RanAll count files lengths b r b
   unfolding runAll batchVerdict
-  refused-all r e some = record { same = go (batchVerdict count files lengths b) e; ends = λ z. absurd (some z) }
+  refused-all r e some = record { same = go (batchVerdict count files lengths b) e; each = λ z. absurd (some z) }
     where
       go : (v : Verdict) → r ≡ codeOf v → _≡_ {A = BatchReply} (record { returned = r; batch = b }) (batchReply v (runPlans files lengths count b) b)
       go accepted f = absurd (some f)
@@ -74,6 +74,6 @@ module _ (count : ℕ) (files lengths : List ℕ) (b : Batch) where
         same =
             ap (λ (x : Batch). record { returned = 0; batch = x }) same-batch
             ∙ ap (λ (v : Verdict). batchReply v (runPlans files lengths count b) b) (sym (none-refused (batchVerdict count files lengths b) z));
-        ends = λ e.
-            subst⁻¹ (λ (x : Batch). EachToItsEnd count files lengths b x) same-batch (each-to-its-end files lengths count b (even z) (work-fits z));
+        each = λ e.
+            subst⁻¹ (λ (x : Batch). EachLeft count files lengths b x) same-batch (each-left files lengths count b (even z) (work-fits z));
       }

@@ -9,7 +9,7 @@ use Rattle.protocol.specs.Format.{workersLimit}
 use Rattle.protocol.specs.Refusals.{codeOf}
 use Rattle.protocol.specs.Calls.{Buffers, workLength}
 use Rattle.protocol.specs.Batch.{Batch, BatchReply, beginsAt, unevenBy, batchBy, answerOf, separate, runPlans, runAll}
-use Rattle.protocol.specs.Demands.{EachToItsEnd}
+use Rattle.protocol.specs.Demands.{EachLeft}
 use Rattle.engine.specs.Turning.{stretch}
 use Rattle.tampermauve.specs.declared.batch.BatchLengths.{BatchLengths}
 
@@ -50,7 +50,8 @@ pub record RanAlone (file : List ℕ) (before : Buffers) (answer : ℕ) (memory 
   pub sameReport : report ≡ separate file before .buffers .report
   pub untouched : (answer ≡ 0 → ⊥) → work ≡ before .work
 
--- what the first k plans leave is what their separate calls leave, but for work, which is to be cleared if one of them was accepted
+-- What the first k plans leave is what their separate calls leave, but for work: if one of them was accepted it is to be all zero, and the
+-- code's is to be cleared yet; if none was, neither has been touched.
 pub record RanPlans (files lengths : List ℕ) (k : ℕ) (before : Batch) (accepted : Bool) (after : Batch) : Type 0 where
   pub memories : after .memories ≡ runPlans files lengths k before .memories
   pub logs : after .logs ≡ runPlans files lengths k before .logs
@@ -59,7 +60,7 @@ pub record RanPlans (files lengths : List ℕ) (k : ℕ) (before : Batch) (accep
   pub cleared : accepted ≡ true → runPlans files lengths k before .work ≡ replicate workLength 0
   pub lent : accepted ≡ false → (runPlans files lengths k before .work ≡ before .work) × (after .work ≡ before .work)
 
--- what is returned and left is what the definition gives; and each accepted plan has been run to its end
+-- what is returned and left is what the definition gives; and each accepted plan has been run to its end, and no refused one was touched
 pub record RanAll (count : ℕ) (files lengths : List ℕ) (before : Batch) (r : ℕ) (after : Batch) : Type 0 where
   pub same : _≡_ {A = BatchReply} (record { returned = r; batch = after }) (runAll count files lengths before)
-  pub ends : r ≡ 0 → EachToItsEnd count files lengths before after
+  pub each : r ≡ 0 → EachLeft count files lengths before after

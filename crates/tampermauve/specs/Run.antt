@@ -40,7 +40,7 @@ pub record Performing (file : List ℕ) (l : Layout) (turns : List ℕ) (whole :
   pub playing : Playing file (l .workers) (l .sizes) (l .firsts) (l .fates) turns whole memory log work
   pub size : length report ≡ reportLength
 
--- and leaves: memory, log and report of the state that the turns leave, or, in a run to the end, some turns that end the plan
+-- and leaves: memory, log and report of the state that some turns leave, those of the list or, in a run to the end, others that end the plan
 pub record Performed (file turns : List ℕ) (whole : Bool) (start memory log report : List ℕ) : Type 0 where
   pub played : List ℕ
   pub listed : whole ≡ false → played ≡ turns

@@ -82,11 +82,14 @@ returns-2 c =
     let e = at-else p in
     let a = admitted e in
     let h = a .admit .ensures in
+    let worked = p .perform .last .1 .1 .1 .1 .1 .1 .1 .0 in
     let fit = buffers-fit (file a) (turns a) (given a) _ h (none e) in
     ran (file a) (turns a) (given a) 0 _
     (acceptance (file a) (turns a) (given a) _ (answered (file a) (turns a) (given a) _ h (none e))
-    (left-same (file a) (turns a) (given a .memory) (p .perform .ensures) {long = length (p .perform .last .1 .1 .1 .1 .1 .1 .1 .0)} (cleared .clear .ensures) (omega (arith, p .perform .kept, fit .work))))
-    (λ z. sum-left (file a) (turns a) (given a .memory) (p .perform .ensures) {long = length (p .perform .last .1 .1 .1 .1 .1 .1 .1 .0)} (cleared .clear .ensures) (omega (arith, p .perform .kept, fit .work))
+    (left-same (file a) (turns a) (given a .memory) (p .perform .ensures) {long = length worked}
+    (cleared .clear .ensures) (omega (arith, p .perform .kept, fit .work))))
+    (λ z. sum-left (file a) (turns a) (given a .memory) (p .perform .ensures) {long = length worked}
+    (cleared .clear .ensures) (omega (arith, p .perform .kept, fit .work))
     (λ i. omega (arith, at-memory cleared .slice-known5 .given i)) (omega (arith, p .perform .kept, fit .memory)))
 
 pub tampermauve-run-spec : {M : Type 1} → statement M

@@ -15,25 +15,33 @@ mul-if3 : tie.Need-mul-if3
 mul-if3 c = search needs
 
 returns-3 : tie.Need-returns-3
-returns-3 c = wrong (c .before .before .before .before .args .count) (c .before .before .before .before .args .l) (λ f. c .if3 .taken (f .lengthsFit))
+returns-3 c =
+    let start = c .before .before .before .before in
+    wrong (start .args .count) (start .args .l) (λ f. c .if3 .taken (f .lengthsFit))
 
 mul-if4 : tie.Need-mul-if4
 mul-if4 c = search needs
 
 returns-4 : tie.Need-returns-4
-returns-4 c = wrong (c .before .before .before .before .before .before .args .count) (c .before .before .before .before .before .before .args .l) (λ f. c .if4 .taken (f .memoriesFit))
+returns-4 c =
+    let start = c .before .before .before .before .before .before in
+    wrong (start .args .count) (start .args .l) (λ f. c .if4 .taken (f .memoriesFit))
 
 mul-if5 : tie.Need-mul-if5
 mul-if5 c = search needs
 
 returns-5 : tie.Need-returns-5
-returns-5 c = wrong (c .before .before .before .before .before .before .before .before .args .count) (c .before .before .before .before .before .before .before .before .args .l) (λ f. c .if5 .taken (f .logsFit))
+returns-5 c =
+    let start = c .before .before .before .before .before .before .before .before in
+    wrong (start .args .count) (start .args .l) (λ f. c .if5 .taken (f .logsFit))
 
 mul-if6 : tie.Need-mul-if6
 mul-if6 c = search needs
 
 returns-6 : tie.Need-returns-6
-returns-6 c = wrong (c .before .before .before .before .before .before .before .before .before .before .args .count) (c .before .before .before .before .before .before .before .before .before .before .args .l) (λ f. c .if6 .taken (f .reportsFit))
+returns-6 c =
+    let start = c .before .before .before .before .before .before .before .before .before .before in
+    wrong (start .args .count) (start .args .l) (λ f. c .if6 .taken (f .reportsFit))
 
 returns-7 : tie.Need-returns-7
 returns-7 c =
