@@ -7,7 +7,7 @@ use lib.Dec.{eqb}
 use lib.ListN.{length, getD}
 use lib.Seq.{slice}
 use Rattle.protocol.specs.Ops.{opLock}
-use Rattle.protocol.specs.Format.{workersLimit, stepsLimit, upTo, records, sleepersIn, planOf}
+use Rattle.protocol.specs.Format.{workersLimit, upTo, records, sleepersIn, planOf}
 use Rattle.protocol.specs.Rounds.{keep}
 use Rattle.protocol.specs.Turns.{workersOf, start as begin, ended}
 use Rattle.protocol.specs.Sum.{sumOf, keptSum}
@@ -32,9 +32,12 @@ pub record Named (file sizes firsts turns : List ℕ) : Type 0 where
   pub below : (i : ℕ) → i < length turns → getD turns i 0 < workersLimit
   pub short : length turns ≤ turnsLimit
 
--- so many turns of a worker: one for each of its steps, and one for its end
+-- so many turns of a worker, and so many of all workers
 abbrev pub stretch : ℕ
-stretch = stepsLimit + 1
+stretch = 32
+
+abbrev pub cycles : ℕ
+cycles = stretch * workersLimit
 
 -- the schedule with so many moves
 abbrev pub movesAs : Schedule → ℕ → Schedule
@@ -91,16 +94,21 @@ pub record RoundBegun (n : ℕ) (fates : List ℕ) (can : List Bool) (memory : L
   pub sum : t .sum ≡ sumOf memory
   pub marks : can′ ≡ raised (awake n fates) can
 
--- the turns that a run to the end chooses from: where each worker's stretch begins. That the rest of it is that worker's too makes the run
--- fast, and is not asked for.
+-- the turns that a run to the end chooses from: where each worker's stretch begins, behind the cycles. What else they are makes the run fast,
+-- and is not asked for.
 pub record Stretches (turns : List ℕ) : Type 0 where
-  pub size : length turns ≡ stretch * workersLimit
-  pub first : (w : ℕ) → w < workersLimit → getD turns (stretch * w) 0 ≡ w
+  pub size : length turns ≡ 2 * cycles
+  pub first : (w : ℕ) → w < workersLimit → getD turns (cycles + stretch * w) 0 ≡ w
 
--- the turn that is next: that of the list; or, in a run to the end, the first of the stretch of a worker that can move, if there is one
-pub record Onward (whole : Bool) (next : ℕ) (can : List Bool) (i : ℕ) : Type 0 where
+-- the turn that is next: that of the list; in a run to the end any, and which one is left open
+pub record Onward (whole : Bool) (next i : ℕ) : Type 0 where
   pub listed : whole ≡ false → i ≡ next
-  pub picked : whole ≡ true → (w : ℕ) × (i ≡ stretch * w) × FirstAble can w
+  pub within : whole ≡ true → i < 2 * cycles
+
+-- the turn behind the last: none in a list; in a run to the end the first of the stretch of a worker that can move, if there is one
+pub record Again (whole : Bool) (next : ℕ) (can : List Bool) (i : ℕ) : Type 0 where
+  pub listed : whole ≡ false → i ≡ next
+  pub picked : whole ≡ true → (w : ℕ) × (i ≡ cycles + stretch * w) × FirstAble can w
 
 -- what is taken: buffers of their lengths, turns, the n workers of an accepted file, and the codes of their fates at first
 pub record Playing (file : List ℕ) (n : ℕ) (sizes firsts first turns : List ℕ) (whole : Bool) (memory log work : List ℕ) : Type 0 where

@@ -1,4 +1,5 @@
 // A list of turns, or a run to the end.
+use crate::onward::again;
 use crate::onward::onward;
 use crate::own::play_own;
 use crate::state::Played;
@@ -53,7 +54,7 @@ fn first_round(
 }
 
 // Plays the turns from the start of round 1, at which the fates have these codes. A turn by a worker that cannot move passes.
-// A run to the end plays turns of its own choice out of stretches, as long as a worker can move.
+// A run to the end plays turns of its own choice, as long as a worker can move.
 pub fn play(
     file: &[u8],
     n: u8,
@@ -76,7 +77,7 @@ pub fn play(
     let mut can = [false; WORKERS_LIMIT];
     let mut copied = [false; SLOTS];
     let mut t = first_round(n as u64, &fates, &mut can, memory);
-    let mut i = onward(whole, 0, &can);
+    let mut i = again(whole, 0, &can);
     while i < turns.len() {
         let own = play_own(
             file,
@@ -120,9 +121,9 @@ pub fn play(
             if list.is_empty() {
                 return Played { schedule: t, fates };
             }
-            i = onward(whole, i, &can);
+            i = onward(whole, t.away, list.first(), i);
         } else {
-            i = onward(whole, i, &can);
+            i = again(whole, i, &can);
         }
     }
     Played { schedule: t, fates }

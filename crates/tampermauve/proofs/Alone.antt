@@ -1,9 +1,11 @@
 -- One plan of a call with many: what its run to the end takes, and that it leaves what its separate call leaves.
-use Prim.Native.Nat.{ℕ, _*_, _/_, _%_, _<_}
+use Prim.Native.Nat.{ℕ, _+_, _-_, _*_, _/_, _%_, _<_}
 use native.Mathlib.Omega.{arith}
-use mathlib.Core.Bool.{true}
+use mathlib.Core.Bool.{Bool, true, false, cond}
 use mathlib.Core.Path.{_≡_, refl, sym, ap, _∙_}
 use mathlib.Core.List.{List}
+use borrow.Author.Tests.{le-ltb}
+use lib.Dec.{ltb}
 use lib.ListN.{length, getD}
 use Rattle.protocol.specs.Format.{workersLimit}
 use Rattle.protocol.specs.Refusals.{Verdict, accepted, refused, codeOf, check}
@@ -16,22 +18,31 @@ use Rattle.protocol.proofs.Demand3.{demand3-file}
 use Rattle.protocol.proofs.Batches.{separate-accepted, separate-refused}
 use Rattle.plan.specs.Checking.{LaidOut}
 use Rattle.plan.specs.declared.check.Layout.{Layout}
-use Rattle.engine.specs.Turning.{stretch, Stretches}
+use Rattle.engine.specs.Turning.{stretch, cycles, Stretches}
 use Rattle.tampermauve.specs.Run.{Performing, Performed}
-use Rattle.tampermauve.specs.All.{Stretched, RanAlone}
+use Rattle.tampermauve.specs.All.{turnAt, Stretched, RanAlone}
 use Rattle.tampermauve.proofs.Admitting.{plan-workers}
 use Rattle.tampermauve.proofs.Entering.{laid-out}
 
--- a stretch of each worker is what a run to the end chooses from
+-- each turn names a worker that some plan may have, and each stretch begins with its worker
+turn-below : (i : ℕ) → i < 2 * cycles → turnAt i < workersLimit
+turn-below i h = go (ltb i cycles) refl
+  where
+    go : (b : Bool) → ltb i cycles ≡ b → cond b (i % workersLimit) ((i - cycles) / stretch) < workersLimit
+    go true e = omega arith
+    go false e = omega arith
+
+turn-first : (w : ℕ) → turnAt (cycles + stretch * w) ≡ w
+turn-first w =
+    ap (λ (b : Bool). cond b ((cycles + stretch * w) % workersLimit) ((cycles + stretch * w - cycles) / stretch)) (le-ltb (cycles + stretch * w) cycles (omega arith))
+    ∙ (let e : (cycles + stretch * w - cycles) / stretch ≡ w = omega arith in e)
+
 stretches : {turns : List ℕ} → Stretched turns → Stretches turns
 stretches s =
-    record {
-      size = s .size;
-      first = λ w h. s .each (stretch * w) (omega (arith, s .size)) ∙ (let e : stretch * w / stretch ≡ w = omega arith in e);
-    }
+    record { size = s .size; first = λ w h. s .each (cycles + stretch * w) (omega (arith, s .size)) ∙ turn-first w }
 
 below : {turns : List ℕ} → Stretched turns → (i : ℕ) → i < length turns → getD turns i 0 < workersLimit
-below s i h = omega (arith, s .each i h, s .size)
+below s i h = omega (arith, s .each i h, turn-below i (omega (arith, s .size)))
 
 module _ (file : List ℕ) (b : Buffers) (fits : Fitting b) where
   pub performs : {turns : List ℕ} {l : Layout} → Stretched turns → check file ≡ accepted → LaidOut file l

@@ -1,16 +1,16 @@
 -- Many plans in one call: what it is admitted by, what one plan of it takes and leaves, and what the call ensures.
-use Prim.Native.Nat.{ℕ, _*_, _/_, _<_}
-use mathlib.Core.Bool.{Bool, true, false, not}
+use Prim.Native.Nat.{ℕ, _-_, _*_, _/_, _%_, _<_}
+use mathlib.Core.Bool.{Bool, true, false, cond, not}
 use mathlib.Core.Path.{_≡_}
 use mathlib.Core.List.{List}
-use lib.Dec.{eqb}
+use lib.Dec.{ltb, eqb}
 use lib.ListN.{length, getD, replicate}
 use Rattle.protocol.specs.Format.{workersLimit}
 use Rattle.protocol.specs.Refusals.{codeOf}
 use Rattle.protocol.specs.Calls.{Buffers, workLength}
 use Rattle.protocol.specs.Batch.{Batch, BatchReply, beginsAt, unevenBy, batchBy, answerOf, separate, runPlans, runAll}
 use Rattle.protocol.specs.Demands.{EachLeft}
-use Rattle.engine.specs.Turning.{stretch}
+use Rattle.engine.specs.Turning.{stretch, cycles}
 use Rattle.tampermauve.specs.declared.batch.BatchLengths.{BatchLengths}
 
 abbrev pub batch : List ℕ → List ℕ → List ℕ → List ℕ → List ℕ → Batch
@@ -37,10 +37,13 @@ abbrev pub batchCode : ℕ → List ℕ → BatchLengths → ℕ
 batchCode count lengths l =
     codeOf (batchBy (not (eqb (l .work) workLength)) (unevenly count l) (not (eqb (beginsAt lengths count) (l .files))))
 
--- the turns that each plan is run with: a stretch of them for each worker
+-- the turns that each plan is run with: cycles of all workers, and behind them a stretch of each worker
+abbrev pub turnAt : ℕ → ℕ
+turnAt i = cond (ltb i cycles) (i % workersLimit) ((i - cycles) / stretch)
+
 pub record Stretched (turns : List ℕ) : Type 0 where
-  pub size : length turns ≡ stretch * workersLimit
-  pub each : (i : ℕ) → i < length turns → getD turns i 0 ≡ i / stretch
+  pub size : length turns ≡ 2 * cycles
+  pub each : (i : ℕ) → i < length turns → getD turns i 0 ≡ turnAt i
 
 -- what one plan leaves is what its separate call leaves, but for work, which a refused one does not touch
 pub record RanAlone (file : List ℕ) (before : Buffers) (answer : ℕ) (memory log report work : List ℕ) : Type 0 where

@@ -2,6 +2,7 @@
 use crate::ACCEPTED;
 use crate::batch::LENGTH_BYTES;
 use crate::perform::perform;
+use engine::onward::CYCLES;
 use engine::onward::STRETCH;
 use format::limits::WORKERS_LIMIT;
 use journal::log::LOG_LENGTH;
@@ -13,22 +14,31 @@ use words::long_at;
 ghost use mathlib.Core.Path.{_≡_};
 ghost use mathlib.Core.Bool.{cond};
 ghost use lib.ListN.{length, replicate};
-ghost use Prim.Native.Nat.{_*_};
-ghost use Rattle.protocol.specs.Format.{workersLimit};
+ghost use Prim.Native.Nat.{_*_, _<_};
 ghost use Rattle.protocol.specs.Calls.{workLength};
-ghost use Rattle.engine.specs.Turning.{stretch};
+ghost use Rattle.engine.specs.Turning.{cycles};
 ghost use Rattle.protocol.specs.WellFormed.{Fitting, EvenlyLent};
 ghost use Rattle.tampermauve.specs.Run.{lent};
-ghost use Rattle.tampermauve.specs.All.{batch, Stretched, RanAlone, RanPlans};
+ghost use Rattle.tampermauve.specs.All.{batch, turnAt, Stretched, RanAlone, RanPlans};
 
-// A stretch of turns for each worker, from which a run to the end chooses.
+// The turns from which a run to the end chooses: cycles of all workers, then a stretch of each worker.
+fn turn_at(i: usize) -> u8
+    requires { ⌜ i < 2 * cycles ⌝ }
+    ensures { λ w. ⌜ w ≡ turnAt i ⌝ }
+{
+    if i < CYCLES {
+        return (i % WORKERS_LIMIT) as u8;
+    }
+    ((i - CYCLES) / STRETCH) as u8
+}
+
 fn fill_stretches(turns: &mut [u8])
-    requires { ⌜ length (now turns) ≡ stretch * workersLimit ⌝ }
+    requires { ⌜ length (now turns) ≡ 2 * cycles ⌝ }
     ensures { λ _. ⌜ Stretched (now (turns .exit)) ⌝ }
 {
     let mut i = 0;
     while i < turns.len() {
-        turns[i] = (i / STRETCH) as u8;
+        turns[i] = turn_at(i);
         i += 1;
     }
 }
@@ -74,7 +84,7 @@ pub fn run_plans(
         (batch (now (memories .entry)) (now (logs .entry)) (now (reports .entry)) (now (answers .entry)) (now (work .entry))) r
         (batch (now (memories .exit)) (now (logs .exit)) (now (reports .exit)) (now (answers .exit)) (now (work .exit))) ⌝ }
 {
-    let mut turns = [0u8; STRETCH * WORKERS_LIMIT];
+    let mut turns = [0u8; 2 * CYCLES];
     fill_stretches(&mut turns);
     let mut accepted = false;
     let mut at = 0;

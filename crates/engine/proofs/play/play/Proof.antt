@@ -1,14 +1,16 @@
 -- `play`: the turns of a run, up to the list's end or the plan's.
 use borrow.Author.Needs.{needs}
 use native.Mathlib.Omega.{arith}
-use Prim.Native.Nat.{ℕ, _-_}
+use Prim.Native.Nat.{ℕ, _+_, _-_, _*_, _<_}
 use mathlib.Core.Bool.{cond}
 use mathlib.Core.Path.{_∙_, sym}
 use mathlib.Core.List.{List}
 use lib.ListN.{length}
+use Rattle.queue.specs.List.{listOf}
 use Rattle.engine.specs.Kept.{Kept, kept, keptOwn}
 use Rattle.engine.proofs.Playing.{plan-sound}
-use Rattle.engine.proofs.Played.{Standing, begins, goes-on, turning, went-on, one-at-least, syncing, stands-on, rises-on, few-moves, ends-here, all-played, falls}
+use Rattle.engine.proofs.Played.{unpicked, Standing, some-left, begins, goes-on, goes-again, again-moves, turning, went-on, no-fewer, one-at-least, syncing, stands-on, rises-on, first-small, few-moves, ends-here}
+use Rattle.engine.proofs.Played.{all-played, falls, right-falls, one-at-most, sure}
 use Rattle.engine.proofs.play.play.Statement.{statement}
 use Rattle.engine.proofs.play.play.Tie as tie
 
@@ -18,7 +20,7 @@ Inv-loop file n sizes firsts turns whole memory₀ log₀ work₀ places₀ held
 
 abbrev μ-loop : tie.MeasureT-loop
 μ-loop file n sizes firsts turns whole memory₀ log₀ work₀ places₀ held₀ registers₀ fates₀ can₀ copied₀ t₀ i₀ memory log work places held registers fates can copied t i =
-    cond whole (2065 - t .counts .moves) (length turns - i)
+    cond whole (2 * (2065 - t .counts .moves) + unpicked turns can i) (length turns - i)
 
 -- the places that later needs look back to
 abbrev from-loop : tie.At-loop Inv-loop μ-loop → tie.Start Inv-loop μ-loop
@@ -45,14 +47,14 @@ first-round-requires c κs =
     let p = c .before .before .before .before .before .before .before .before .pre in
     (omega (arith, p .workers, plan-sound (p .named) .workers), p .bytes .memoryLength)
 
-onward-requires : tie.Need-onward-requires Inv-loop μ-loop
-onward-requires c κs = search needs
+again-requires : tie.Need-again-requires Inv-loop μ-loop
+again-requires c κs = search needs
 
 loop-holds : tie.Need-loop-holds Inv-loop μ-loop
 loop-holds c =
     let begun = c .before .before in
     let p = begun .before .before .before .before .before .before .before .before .before .pre in
-    goes-on p (begins p (begun .first-round .ensures)) (c .onward .ensures)
+    goes-again p (begins p (begun .first-round .ensures)) (c .again .ensures)
 
 play-own-requires : tie.Need-play-own-requires Inv-loop μ-loop
 play-own-requires c κs =
@@ -119,8 +121,19 @@ returns c =
     (stands-on p (lent l) (l .loop .fates) (l .loop .log) (l .loop .inv .so) (from-test u .play-own .ensures) (u .if1 .taken) (s .sync .ensures))
     (c .before .is-empty .ensures) (c .if2 .taken)
 
-onward-requires-2 : tie.Need-onward-requires-2 Inv-loop μ-loop
-onward-requires-2 c κs = search needs
+first-requires : tie.Need-first-requires Inv-loop μ-loop
+first-requires c κs =
+    some-left (listOf (from-empty (c .before) .sync .result .lists .list)) (c .before .is-empty .ensures) (c .if2 .left)
+
+onward-requires : tie.Need-onward-requires Inv-loop μ-loop
+onward-requires c κs =
+    let e = c .before in
+    let s = from-empty (e .before) in
+    let u = from-sync s in
+    let l = from-own (from-test u) in
+    let p = from-loop l .pre in
+    let stands = stands-on p (lent l) (l .loop .fates) (l .loop .log) (l .loop .inv .so) (from-test u .play-own .ensures) (u .if1 .taken) (s .sync .ensures) in
+    omega (arith, c .first .ensures, first-small p stands (some-left (listOf (s .sync .result .lists .list)) (e .before .is-empty .ensures) (e .if2 .left)))
 
 loop-less : tie.Need-loop-less Inv-loop μ-loop
 loop-less c =
@@ -131,12 +144,19 @@ loop-less c =
     let p = from-loop l .pre in
     let so = l .loop .inv .so in
     let on = o .play-own .ensures in
-    falls _ {left = length (from-loop l .args .turns .now) - l .loop .i} {left′ = length (from-loop l .args .turns .now) - c .onward2 .result}
-    (λ e. (
+    let turns = from-loop l .args .turns .now in
+    let can = s .sync .last .1 .1 .1 .1 .1 .1 .1 .1 .0 in
+    falls _ {right = 2 * (2065 - l .loop .t .counts .moves) + unpicked turns (l .loop .can) (l .loop .i)}
+    {right′ = 2 * (2065 - s .sync .result .counts .moves) + unpicked turns can (c .onward .result)}
+    {left = length turns - l .loop .i} {left′ = length turns - c .onward .result}
+    (λ e.
+    omega (
+      arith,
       rises-on p (lent l) (l .loop .fates) (l .loop .log) so on (u .if1 .taken) (s .sync .ensures),
       few-moves p (stands-on p (lent l) (l .loop .fates) (l .loop .log) so on (u .if1 .taken) (s .sync .ensures)),
+      one-at-most turns can (c .onward .result),
     ))
-    (λ e. omega (arith, u .if1 .taken, on .forward, c .onward2 .ensures .listed e))
+    (λ e. omega (arith, u .if1 .taken, on .forward, c .onward .ensures .listed e))
 
 loop-again : tie.Need-loop-again Inv-loop μ-loop
 loop-again c =
@@ -146,10 +166,10 @@ loop-again c =
     let p = from-loop l .pre in
     goes-on p
     (stands-on p (lent l) (l .loop .fates) (l .loop .log) (l .loop .inv .so) (from-test u .play-own .ensures) (u .if1 .taken) (s .sync .ensures))
-    (c .onward2 .ensures)
+    (c .onward .ensures)
 
-onward-requires-3 : tie.Need-onward-requires-3 Inv-loop μ-loop
-onward-requires-3 c κs = search needs
+again-requires-2 : tie.Need-again-requires-2 Inv-loop μ-loop
+again-requires-2 c κs = search needs
 
 loop-less-2 : tie.Need-loop-less-2 Inv-loop μ-loop
 loop-less-2 c =
@@ -160,19 +180,21 @@ loop-less-2 c =
     let so = l .loop .inv .so in
     let on = o .play-own .ensures in
     let here = o .before .before .before .before .before .before .before .before .loop-test .taken in
-    falls _ {left = length (from-loop l .args .turns .now) - l .loop .i} {left′ = length (from-loop l .args .turns .now) - c .onward3 .result}
-    (λ e. (
-      one-at-least p (lent l) (l .loop .fates) (l .loop .log) so on (omega (arith, here, e1 .if1 .left)) (l .loop .inv .picked e .moves here),
-      few-moves p (went-on p (lent l) (l .loop .fates) (l .loop .log) so on),
-    ))
-    (λ e. omega (arith, here, e1 .if1 .left, c .onward3 .ensures .listed e))
+    let turns = from-loop l .args .turns .now in
+    falls _ {right = 2 * (2065 - l .loop .t .counts .moves) + unpicked turns (l .loop .can) (l .loop .i)}
+    {right′ = 2 * (2065 - o .play-own .result .moves) + unpicked turns (l .loop .can) (c .again2 .result)}
+    {left = length turns - l .loop .i} {left′ = length turns - c .again2 .result}
+    (λ e. right-falls _ _ (again-moves p e (c .again2 .ensures)) (no-fewer p (lent l) (l .loop .fates) (l .loop .log) so on)
+    (few-moves p (went-on p (lent l) (l .loop .fates) (l .loop .log) so on)) (one-at-most turns (l .loop .can) (l .loop .i))
+    (λ z. one-at-least p (lent l) (l .loop .fates) (l .loop .log) so on (omega (arith, here, e1 .if1 .left)) (sure turns (l .loop .can) (l .loop .i) here z)))
+    (λ e. omega (arith, here, e1 .if1 .left, c .again2 .ensures .listed e))
 
 loop-again-2 : tie.Need-loop-again-2 Inv-loop μ-loop
 loop-again-2 c =
     let o = c .before .before .before .before .before .before in
     let l = from-own o in
     let p = from-loop l .pre in
-    goes-on p (went-on p (lent l) (l .loop .fates) (l .loop .log) (l .loop .inv .so) (o .play-own .ensures)) (c .onward3 .ensures)
+    goes-again p (went-on p (lent l) (l .loop .fates) (l .loop .log) (l .loop .inv .so) (o .play-own .ensures)) (c .again2 .ensures)
 
 same-length-4 : tie.Need-same-length-4 Inv-loop μ-loop
 same-length-4 c =
@@ -186,7 +208,7 @@ same-length-6 c =
     c .before .loop .inv .so .refines .bytes .sizes .workLength ∙ sym (from-loop (c .before) .pre .bytes .workLength)
 
 returns-2 : tie.Need-returns-2 Inv-loop μ-loop
-returns-2 c = all-played (from-loop (c .before) .pre) (c .before .loop .inv .so) (omega (arith, c .loop-test .left)) (c .before .loop .inv .picked)
+returns-2 c = all-played (from-loop (c .before) .pre) (c .before .loop .inv .so) (omega (arith, c .loop-test .left)) (c .before .loop .inv .nobody)
 
 pub play-spec : {M : Type 1} → statement M
 play-spec =
@@ -195,7 +217,7 @@ play-spec =
     Inv-loop
     μ-loop
     first-round-requires
-    onward-requires
+    again-requires
     loop-holds
     play-own-requires
     shared-slice-read-w
@@ -207,10 +229,11 @@ play-spec =
     same-length-2
     same-length-3
     returns
-    onward-requires-2
+    first-requires
+    onward-requires
     loop-less
     loop-again
-    onward-requires-3
+    again-requires-2
     loop-less-2
     loop-again-2
     same-length-4

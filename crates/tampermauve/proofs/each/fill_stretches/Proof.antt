@@ -2,26 +2,26 @@
 use native.Mathlib.Omega.{arith}
 use native.Mathlib.Decide.{ℕ-discrete}
 use borrow.Author.Needs.{needs}
-use Prim.Native.Nat.{ℕ, _-_, _*_, _/_, _<_, _≤_}
+use Prim.Native.Nat.{ℕ, _-_, _*_, _<_, _≤_}
 use mathlib.Core.Path.{_≡_, sym, ap, _∙_}
 use lib.ListN.{length, getD, set}
 use lib.Seq.{getD-set-same, getD-set-other}
-use Rattle.protocol.specs.Format.{workersLimit}
-use Rattle.engine.specs.Turning.{stretch}
+use Rattle.engine.specs.Turning.{cycles}
+use Rattle.tampermauve.specs.All.{turnAt}
 use Rattle.tampermauve.proofs.each.fill_stretches.Statement.{statement}
 use Rattle.tampermauve.proofs.each.fill_stretches.Tie as tie
 
 abbrev Inv-loop : tie.InvT-loop
-Inv-loop turns₀ i₀ turns i = (i ≤ stretch * workersLimit) × (length turns ≡ stretch * workersLimit) × ((j : ℕ) → j < i → getD turns j 0 ≡ j / stretch)
+Inv-loop turns₀ i₀ turns i = (i ≤ 2 * cycles) × (length turns ≡ 2 * cycles) × ((j : ℕ) → j < i → getD turns j 0 ≡ turnAt j)
 
 abbrev μ-loop : tie.MeasureT-loop
-μ-loop turns₀ i₀ turns i = stretch * workersLimit - i
+μ-loop turns₀ i₀ turns i = 2 * cycles - i
 
 loop-holds : tie.Need-loop-holds Inv-loop μ-loop
 loop-holds c = (omega arith, search needs, λ j h. absurd (omega arith))
 
-cast-turns : tie.Need-cast-turns Inv-loop μ-loop
-cast-turns c = search needs
+turn-at-requires : tie.Need-turn-at-requires Inv-loop μ-loop
+turn-at-requires c κs = omega (arith, c .before .loop .inv .1, c .loop-test .taken)
 
 slice-write-turns : tie.Need-slice-write-turns Inv-loop μ-loop
 slice-write-turns c = search needs
@@ -34,15 +34,17 @@ loop-less c = search needs
 
 loop-again : tie.Need-loop-again Inv-loop μ-loop
 loop-again c =
-    let l = c .before in
+    let l = c .before .before in
     let turns = l .loop .turns in
     let i = l .loop .i in
-    let long = l .loop .inv .1 in (
-      omega (arith, c .loop-test .taken),
+    let w = c .turn-at .result in
+    let long = l .loop .inv .1 in
+    let taken = c .before .loop-test .taken in (
+      omega (arith, long, taken),
       search needs,
       λ j h. elim (ℕ-discrete j i) [
-        | yes e ↦ ap (λ (m : ℕ). getD (set turns i (i / stretch)) m 0) e ∙ (getD-set-same turns i (i / stretch) 0 (omega (arith, long, c .loop-test .taken)) ∙ ap (λ (m : ℕ). m / stretch) (sym e))
-        | no other ↦ getD-set-other turns i j (i / stretch) 0 other ∙ l .loop .inv .2 j (omega arith)
+        | yes e ↦ ap (λ (m : ℕ). getD (set turns i w) m 0) e ∙ (getD-set-same turns i w 0 taken ∙ (c .turn-at .ensures ∙ ap (λ (m : ℕ). turnAt m) (sym e)))
+        | no other ↦ getD-set-other turns i j w 0 other ∙ l .loop .inv .2 j (omega arith)
       ],
     )
 
@@ -61,7 +63,7 @@ fill-stretches-spec =
     Inv-loop
     μ-loop
     loop-holds
-    cast-turns
+    turn-at-requires
     slice-write-turns
     add-i
     loop-less
