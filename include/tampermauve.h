@@ -14,7 +14,7 @@
  *   - A refusal changes no byte of any buffer. Among many plans, one that is refused has no byte of its memory, log and report
  *     changed.
  *   - A call uses less than TAMPERMAUVE_STACK_LIMIT bytes of the caller's stack (`make test-stack` measures it: some 630 for a
- *     check, 1,450 for a run and 2,000 for a run of many plans).
+ *     check, 1,450 for a run and 1,900 for a run of many plans).
  */
 #ifndef TAMPERMAUVE_H
 #define TAMPERMAUVE_H

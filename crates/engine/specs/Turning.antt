@@ -36,8 +36,8 @@ pub record Named (file sizes firsts turns : List ℕ) : Type 0 where
 abbrev pub stretch : ℕ
 stretch = 32
 
-abbrev pub cycles : ℕ
-cycles = stretch * workersLimit
+abbrev pub cycleTurns : ℕ
+cycleTurns = stretch * workersLimit
 
 -- the schedule with so many moves
 abbrev pub movesAs : Schedule → ℕ → Schedule
@@ -97,18 +97,18 @@ pub record RoundBegun (n : ℕ) (fates : List ℕ) (can : List Bool) (memory : L
 -- the turns that a run to the end chooses from: where each worker's stretch begins, behind the cycles. What else they are makes the run fast,
 -- and is not asked for.
 pub record Stretches (turns : List ℕ) : Type 0 where
-  pub size : length turns ≡ 2 * cycles
-  pub first : (w : ℕ) → w < workersLimit → getD turns (cycles + stretch * w) 0 ≡ w
+  pub size : length turns ≡ 2 * cycleTurns
+  pub first : (w : ℕ) → w < workersLimit → getD turns (cycleTurns + stretch * w) 0 ≡ w
 
 -- the turn that is next: that of the list; in a run to the end any, and which one is left open
 pub record Onward (whole : Bool) (next i : ℕ) : Type 0 where
   pub listed : whole ≡ false → i ≡ next
-  pub within : whole ≡ true → i < 2 * cycles
+  pub within : whole ≡ true → i < 2 * cycleTurns
 
 -- the turn behind the last: none in a list; in a run to the end the first of the stretch of a worker that can move, if there is one
 pub record Again (whole : Bool) (next : ℕ) (can : List Bool) (i : ℕ) : Type 0 where
   pub listed : whole ≡ false → i ≡ next
-  pub picked : whole ≡ true → (w : ℕ) × (i ≡ cycles + stretch * w) × FirstAble can w
+  pub picked : whole ≡ true → (w : ℕ) × (i ≡ cycleTurns + stretch * w) × FirstAble can w
 
 -- what is taken: buffers of their lengths, turns, the n workers of an accepted file, and the codes of their fates at first
 pub record Playing (file : List ℕ) (n : ℕ) (sizes firsts first turns : List ℕ) (whole : Bool) (memory log work : List ℕ) : Type 0 where

@@ -18,28 +18,28 @@ use Rattle.protocol.proofs.Demand3.{demand3-file}
 use Rattle.protocol.proofs.Batches.{separate-accepted, separate-refused}
 use Rattle.plan.specs.Checking.{LaidOut}
 use Rattle.plan.specs.declared.check.Layout.{Layout}
-use Rattle.engine.specs.Turning.{stretch, cycles, Stretches}
+use Rattle.engine.specs.Turning.{stretch, cycleTurns, Stretches}
 use Rattle.tampermauve.specs.Run.{Performing, Performed}
 use Rattle.tampermauve.specs.All.{turnAt, Stretched, RanAlone}
 use Rattle.tampermauve.proofs.Admitting.{plan-workers}
 use Rattle.tampermauve.proofs.Entering.{laid-out}
 
 -- each turn names a worker that some plan may have, and each stretch begins with its worker
-turn-below : (i : ℕ) → i < 2 * cycles → turnAt i < workersLimit
-turn-below i h = go (ltb i cycles) refl
+turn-below : (i : ℕ) → i < 2 * cycleTurns → turnAt i < workersLimit
+turn-below i h = go (ltb i cycleTurns) refl
   where
-    go : (b : Bool) → ltb i cycles ≡ b → cond b (i % workersLimit) ((i - cycles) / stretch) < workersLimit
+    go : (b : Bool) → ltb i cycleTurns ≡ b → cond b (i % workersLimit) ((i - cycleTurns) / stretch) < workersLimit
     go true e = omega arith
     go false e = omega arith
 
-turn-first : (w : ℕ) → turnAt (cycles + stretch * w) ≡ w
+turn-first : (w : ℕ) → turnAt (cycleTurns + stretch * w) ≡ w
 turn-first w =
-    ap (λ (b : Bool). cond b ((cycles + stretch * w) % workersLimit) ((cycles + stretch * w - cycles) / stretch)) (le-ltb (cycles + stretch * w) cycles (omega arith))
-    ∙ (let e : (cycles + stretch * w - cycles) / stretch ≡ w = omega arith in e)
+    ap (λ (b : Bool). cond b ((cycleTurns + stretch * w) % workersLimit) ((cycleTurns + stretch * w - cycleTurns) / stretch)) (le-ltb (cycleTurns + stretch * w) cycleTurns (omega arith))
+    ∙ (let e : (cycleTurns + stretch * w - cycleTurns) / stretch ≡ w = omega arith in e)
 
 stretches : {turns : List ℕ} → Stretched turns → Stretches turns
 stretches s =
-    record { size = s .size; first = λ w h. s .each (cycles + stretch * w) (omega (arith, s .size)) ∙ turn-first w }
+    record { size = s .size; first = λ w h. s .each (cycleTurns + stretch * w) (omega (arith, s .size)) ∙ turn-first w }
 
 below : {turns : List ℕ} → Stretched turns → (i : ℕ) → i < length turns → getD turns i 0 < workersLimit
 below s i h = omega (arith, s .each i h, turn-below i (omega (arith, s .size)))

@@ -10,7 +10,7 @@ use Rattle.protocol.specs.Refusals.{codeOf}
 use Rattle.protocol.specs.Calls.{Buffers, workLength}
 use Rattle.protocol.specs.Batch.{Batch, BatchReply, beginsAt, unevenBy, batchBy, answerOf, separate, runPlans, runAll}
 use Rattle.protocol.specs.Demands.{EachLeft}
-use Rattle.engine.specs.Turning.{stretch, cycles}
+use Rattle.engine.specs.Turning.{stretch, cycleTurns}
 use Rattle.tampermauve.specs.declared.batch.BatchLengths.{BatchLengths}
 
 abbrev pub batch : List ℕ → List ℕ → List ℕ → List ℕ → List ℕ → Batch
@@ -39,10 +39,10 @@ batchCode count lengths l =
 
 -- the turns that each plan is run with: cycles of all workers, and behind them a stretch of each worker
 abbrev pub turnAt : ℕ → ℕ
-turnAt i = cond (ltb i cycles) (i % workersLimit) ((i - cycles) / stretch)
+turnAt i = cond (ltb i cycleTurns) (i % workersLimit) ((i - cycleTurns) / stretch)
 
 pub record Stretched (turns : List ℕ) : Type 0 where
-  pub size : length turns ≡ 2 * cycles
+  pub size : length turns ≡ 2 * cycleTurns
   pub each : (i : ℕ) → i < length turns → getD turns i 0 ≡ turnAt i
 
 -- what one plan leaves is what its separate call leaves, but for work, which a refused one does not touch

@@ -16,14 +16,14 @@ ghost use mathlib.Core.Bool.{cond};
 ghost use lib.ListN.{length, replicate};
 ghost use Prim.Native.Nat.{_*_, _<_};
 ghost use Rattle.protocol.specs.Calls.{workLength};
-ghost use Rattle.engine.specs.Turning.{cycles};
+ghost use Rattle.engine.specs.Turning.{cycleTurns};
 ghost use Rattle.protocol.specs.WellFormed.{Fitting, EvenlyLent};
 ghost use Rattle.tampermauve.specs.Run.{lent};
 ghost use Rattle.tampermauve.specs.All.{batch, turnAt, Stretched, RanAlone, RanPlans};
 
 // The turns from which a run to the end chooses: cycles of all workers, then a stretch of each worker.
 fn turn_at(i: usize) -> u8
-    requires { ⌜ i < 2 * cycles ⌝ }
+    requires { ⌜ i < 2 * cycleTurns ⌝ }
     ensures { λ w. ⌜ w ≡ turnAt i ⌝ }
 {
     if i < CYCLES {
@@ -33,7 +33,7 @@ fn turn_at(i: usize) -> u8
 }
 
 fn fill_stretches(turns: &mut [u8])
-    requires { ⌜ length (now turns) ≡ 2 * cycles ⌝ }
+    requires { ⌜ length (now turns) ≡ 2 * cycleTurns ⌝ }
     ensures { λ _. ⌜ Stretched (now (turns .exit)) ⌝ }
 {
     let mut i = 0;

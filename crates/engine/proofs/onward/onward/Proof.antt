@@ -1,5 +1,4 @@
 -- `onward`: a list's next turn, or any turn of those that a run to the end chooses from.
-use borrow.Author.Needs.{needs}
 use native.Mathlib.Omega.{arith}
 use mathlib.Core.Path.{refl, sym, _∙_}
 use Rattle.protocol.proofs.Counting.{clash}

@@ -1,7 +1,7 @@
 -- `play`: the turns of a run, up to the list's end or the plan's.
 use borrow.Author.Needs.{needs}
 use native.Mathlib.Omega.{arith}
-use Prim.Native.Nat.{ℕ, _+_, _-_, _*_, _<_}
+use Prim.Native.Nat.{ℕ, _+_, _-_, _*_}
 use mathlib.Core.Bool.{cond}
 use mathlib.Core.Path.{_∙_, sym}
 use mathlib.Core.List.{List}
@@ -9,8 +9,8 @@ use lib.ListN.{length}
 use Rattle.queue.specs.List.{listOf}
 use Rattle.engine.specs.Kept.{Kept, kept, keptOwn}
 use Rattle.engine.proofs.Playing.{plan-sound}
-use Rattle.engine.proofs.Played.{unpicked, Standing, some-left, begins, goes-on, goes-again, again-moves, turning, went-on, no-fewer, one-at-least, syncing, stands-on, rises-on, first-small, few-moves, ends-here}
-use Rattle.engine.proofs.Played.{all-played, falls, right-falls, one-at-most, sure}
+use Rattle.engine.proofs.Played.{unpicked, Standing, some-left, begins, goes-on, goes-again, again-moves, turning, went-on, no-fewer, one-at-least, syncing}
+use Rattle.engine.proofs.Played.{stands-on, rises-on, first-small, few-moves, ends-here, all-played, falls, right-falls, one-at-most, sure}
 use Rattle.engine.proofs.play.play.Statement.{statement}
 use Rattle.engine.proofs.play.play.Tie as tie
 

@@ -6,16 +6,16 @@ use Prim.Native.Nat.{ℕ, _-_, _*_, _<_, _≤_}
 use mathlib.Core.Path.{_≡_, sym, ap, _∙_}
 use lib.ListN.{length, getD, set}
 use lib.Seq.{getD-set-same, getD-set-other}
-use Rattle.engine.specs.Turning.{cycles}
+use Rattle.engine.specs.Turning.{cycleTurns}
 use Rattle.tampermauve.specs.All.{turnAt}
 use Rattle.tampermauve.proofs.each.fill_stretches.Statement.{statement}
 use Rattle.tampermauve.proofs.each.fill_stretches.Tie as tie
 
 abbrev Inv-loop : tie.InvT-loop
-Inv-loop turns₀ i₀ turns i = (i ≤ 2 * cycles) × (length turns ≡ 2 * cycles) × ((j : ℕ) → j < i → getD turns j 0 ≡ turnAt j)
+Inv-loop turns₀ i₀ turns i = (i ≤ 2 * cycleTurns) × (length turns ≡ 2 * cycleTurns) × ((j : ℕ) → j < i → getD turns j 0 ≡ turnAt j)
 
 abbrev μ-loop : tie.MeasureT-loop
-μ-loop turns₀ i₀ turns i = 2 * cycles - i
+μ-loop turns₀ i₀ turns i = 2 * cycleTurns - i
 
 loop-holds : tie.Need-loop-holds Inv-loop μ-loop
 loop-holds c = (omega arith, search needs, λ j h. absurd (omega arith))
