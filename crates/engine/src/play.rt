@@ -77,7 +77,7 @@ pub fn play(
     let mut can = [false; WORKERS_LIMIT];
     let mut copied = [false; SLOTS];
     let mut t = first_round(n as u64, &fates, &mut can, memory);
-    let mut i = again(whole, 0, &can);
+    let mut i = 0;
     while i < turns.len() {
         let own = play_own(
             file,

@@ -1,7 +1,7 @@
 -- The step records: what the code keeps of the records before one decides its rule, and stays true of one record more.
 use Prim.Native.Nat.{ℕ, zero, suc, _+_, _-_, _<_, _≤_}
 use mathlib.Core.Bool.{Bool, true, false, cond, not, _&&_, _||_, true≢false}
-use mathlib.Core.Path.{_≡_, refl, sym, ap, _∙_}
+use mathlib.Core.Path.{_≡_, refl, sym, ap, _∙_, subst, subst⁻¹}
 use mathlib.Core.Logic.{⊎-elim}
 use mathlib.Core.List.{List, _++_}
 use mathlib.Core.Option.{none, some}
@@ -10,7 +10,7 @@ use native.Mathlib.Numerals.{add-one}
 use native.Mathlib.Decide.{ℕ-discrete, decLt}
 use lib.Dec.{leb, ltb, eqb}
 use lib.ListN.{length, getD}
-use borrow.Author.Tests.{lt-ltb, le-ltb, ltb-false, leb-false, eqb-true}
+use borrow.Author.Tests.{lt-ltb, le-ltb, lt-leb, ltb-false, leb-false, eqb-true}
 use Rattle.protocol.specs.Ops.{opPlanRecord, opBarrierRecord, opSleepRecord, opBarrier}
 use Rattle.protocol.specs.Format.{Record, recordsFrom, rowOf, known, isBarrier, isSleep, isStep, workersIn, sizeIn, sleepersIn, stepsIn, firstIn, workersLimit, barrierCount, stepsLimit}
 use Rattle.protocol.specs.Refusals as protocol
@@ -23,10 +23,10 @@ use Rattle.protocol.proofs.Prefix.{first-step}
 use Rattle.format.specs.Table.{limitsFor}
 use Rattle.plan.specs.Answer.{recordOf, decodedOf}
 use Rattle.plan.specs.Reading.{fileRecord, before, verdictFrom, RulesHold}
-use Rattle.plan.specs.Stepping.{refusesWorker, readSteps, noStep, keptStepRule, keptRule, WorkersOpened, StepsSoFar, RecordsRead}
+use Rattle.plan.specs.Stepping.{refusesWorker, readSteps, noStep, keptStepRule, keptRule, WorkersOpened, PlainStep, StepsSoFar, RecordsRead}
 use Rattle.plan.specs.declared.decode.Decoded.the-variants as decoded
-use Rattle.plan.proofs.Limited.{unknown, barrier-number}
-use Rattle.plan.proofs.Readings.{Body, before-more, length-before, told, marked-rule, rules-more, read, workers-same}
+use Rattle.plan.proofs.Limited.{unknown, not-plan-record, not-barrier-record, not-sleep-record, barrier-number}
+use Rattle.plan.proofs.Readings.{Body, before-more, length-before, told, verdict-step, marked-rule, rules-more, read, workers-same}
 
 -- what the reading of steps has kept of the records before record i
 pub record StepsKept (file : List ℕ) (i n : ℕ) (sizes sleepers : List ℕ) (opened : ℕ) (firsts : List ℕ) : Type 0 where
@@ -207,6 +207,50 @@ module _ {file : List ℕ} {i n : ℕ} {sizes sleepers : List ℕ} {opened : ℕ
       where
         more : before file (i + 1) ≡ before file i ++ one (recordOf b)
         more = before-more file i ∙ ap (λ (r : Record). before file i ++ one r) same
+
+-- plain steps of the worker that was opened last, up to its last one that is allowed
+module _ {file : List ℕ} {n : ℕ} {sizes sleepers : List ℕ} {opened : ℕ} {firsts : List ℕ} {w : ℕ} (last : opened ≡ w + 1) (below : opened ≤ n) where
+  module _ {i : ℕ} (k : StepsKept file i n sizes sleepers opened firsts) (p : PlainStep file n sizes w i) (room : i < getD firsts w 0 + stepsLimit) where
+    abbrev b : Body
+    b = p .body
+
+    plain-step : OneStep file i n sizes sleepers opened firsts b
+    plain-step = record { kept = k; noBarrier = λ z. absurd (omega arith); noSleep = λ z. absurd (omega arith); decoded = p .decoded }
+
+    plain-rule : keptRule n opened sizes firsts i b ≡ holds
+    plain-rule =
+        let same = p .same in
+        let begun = ap (λ (j : ℕ). getD firsts j 0) same in
+        simp (
+          not-plan-record (b .op) (p .known),
+          not-barrier-record (b .op) (p .known),
+          not-sleep-record (b .op) (p .known),
+          p .known,
+          lt-leb n (b .worker) (omega arith),
+          le-ltb (b .worker + 1) opened (omega arith),
+          lt-ltb (b .worker) opened (omega arith),
+          lt-leb stepsLimit (i - getD firsts (b .worker) 0) (omega arith),
+        )
+        (p .operands)
+
+    plain-more : StepsKept file (i + 1) n sizes sleepers opened firsts
+    plain-more =
+        let same = p .same in
+        let again : b .worker + 1 ≡ opened = omega arith in
+        subst (λ (j : ℕ). StepsKept file (i + 1) n sizes sleepers j firsts) again
+        (step-more plain-step plain-rule (record { size = refl; inside = λ j l m h. absurd (omega arith); below = λ j l. refl }))
+
+  pub stretch-more : (count : ℕ) (d : ℕ) {i r : ℕ} → r ≡ i + d → StepsKept file i n sizes sleepers opened firsts
+      → ((j : ℕ) → i ≤ j → j < r → (j < count) × (j < getD firsts w 0 + stepsLimit)) → ((j : ℕ) → i ≤ j → j < r → PlainStep file n sizes w j)
+      → StepsKept file r n sizes sleepers opened firsts × (verdictFrom file count r ≡ verdictFrom file count i)
+  stretch-more count zero {i} {r} e k room plain =
+      let here : r ≡ i = omega arith in
+      (subst⁻¹ (λ (j : ℕ). StepsKept file j n sizes sleepers opened firsts) here k, ap (λ (j : ℕ). verdictFrom file count j) here)
+  stretch-more count (suc d) {i} {r} e k room plain =
+      let p = plain i (omega arith) (omega arith) in
+      let inside = room i (omega arith) (omega arith) in
+      let rest = stretch-more count d {i = i + 1} {r = r} (omega arith) (plain-more k p (inside .1)) (λ j l. room j (omega arith)) (λ j l. plain j (omega arith)) in
+      (rest .0, rest .1 ∙ sym (verdict-step file count i (inside .0) (same-rule (plain-step k p (inside .1)) ∙ plain-rule k p (inside .1))))
 
 -- all records read
 pub read-through : (file : List ℕ) (count : ℕ) → verdictFrom file count count ≡ protocol.checkSkips 0 (before file count)

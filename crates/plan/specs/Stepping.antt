@@ -1,5 +1,5 @@
 -- What the reading of the step records finds, by record index.
-use Prim.Native.Nat.{ℕ, _+_, _-_, _<_, _≤_}
+use Prim.Native.Nat.{ℕ, _+_, _-_, max, _<_, _≤_}
 use mathlib.Core.Bool.{Bool, true, false, cond, not, _&&_, _||_}
 use mathlib.Core.Path.{_≡_}
 use mathlib.Core.List.{List}
@@ -11,9 +11,10 @@ use Rattle.protocol.specs.Refusals as protocol
 use Rattle.protocol.specs.Refusals.{refuseIf, holds, outside}
 use Rattle.protocol.specs.Calls.{both}
 use Rattle.format.specs.declared.table.Row.{Row}
-use Rattle.plan.specs.Answer.{recordOf, verdictOf}
+use Rattle.plan.specs.Answer.{recordOf, decodedOf, verdictOf}
 use Rattle.plan.specs.Reading.{fileRecord, before, verdictFrom, RulesHold}
 use Rattle.plan.specs.declared.decode.Record.{Record}
+use Rattle.plan.specs.declared.decode.Decoded.the-variants as decoded
 use Rattle.plan.specs.declared.answer.Verdict.{Verdict}
 
 abbrev pub outsideOf : Row → ℕ → ℕ → Bool
@@ -57,6 +58,20 @@ pub record WorkersOpened (old : List ℕ) (opened ends i : ℕ) (new : List ℕ)
   pub size : length new ≡ length old
   pub inside : (k : ℕ) → opened ≤ k → k < ends → k < length old → getD new k 0 ≡ i
   pub below : (k : ℕ) → k < opened → getD new k 0 ≡ getD old k 0
+
+-- record i is a step of worker w, and its operands keep their rule
+pub record PlainStep (file : List ℕ) (n : ℕ) (sizes : List ℕ) (w i : ℕ) : Type 0 where
+  pub body : Record
+  pub decoded : decodedOf (fileRecord file i) ≡ decoded.Read body
+  pub same : body .worker ≡ w
+  pub known : format.known (body .op) ≡ true
+  pub operands : keptOperandRule n sizes body ≡ holds
+
+-- such steps from one record up to another. How far they are read is left open, since each record from there on is looked at again.
+pub record StretchRead (file : List ℕ) (n : ℕ) (sizes : List ℕ) (w from ends r : ℕ) : Type 0 where
+  pub least : from ≤ r
+  pub most : r ≤ max from ends
+  pub plain : (k : ℕ) → from ≤ k → k < r → PlainStep file n sizes w k
 
 -- the records before the steps
 pub record StepsSoFar (file : List ℕ) (count n : ℕ) (sizes : List ℕ) (start : ℕ) : Type 0 where

@@ -16,12 +16,12 @@ use format::table::place;
 use format::table::rows;
 ghost use mathlib.Core.Path.{_≡_};
 ghost use mathlib.Core.Option.{some};
-ghost use Prim.Native.Nat.{ℕ, _+_, _*_, _≤_, _<_};
+ghost use Prim.Native.Nat.{ℕ, _+_, _*_, _≤_, _<_, min};
 ghost use lib.ListN.{length, getD};
 ghost use Rattle.protocol.specs.Format.{recordLength, workersLimit};
 ghost use Rattle.format.specs.Table.{limits, limitsFor};
 ghost use Rattle.plan.specs.Answer.{refusalOf, ruleAs};
-ghost use Rattle.plan.specs.Stepping.{outsideOf, refusesWorker, readSteps, noStep, keptOperandRule, keptRule, StepsSoFar, WorkersOpened, StepsRead};
+ghost use Rattle.plan.specs.Stepping.{outsideOf, refusesWorker, readSteps, noStep, keptOperandRule, keptRule, StepsSoFar, WorkersOpened, StretchRead, StepsRead};
 
 // Whether an operand is out of its row's ranges.
 fn outside(row: Row, register: u8, number: u16) -> bool
@@ -146,6 +146,57 @@ fn open_workers(firsts: &mut [usize; WORKERS_LIMIT + 1], opened: usize, worker: 
     }
 }
 
+fn lesser(a: usize, b: usize) -> usize
+    ensures { λ r. ⌜ r ≡ min a b ⌝ }
+{
+    if a < b {
+        return a;
+    }
+    b
+}
+
+// Reads on from record `from` over steps of this worker whose operands are right, up to `end`: the record behind them. Most records are read
+// here; what stops the reading is left to the general rule.
+fn read_stretch(
+    rows: [Row; ROW_COUNT],
+    file: &[u8],
+    from: usize,
+    end: usize,
+    worker: u8,
+    n: usize,
+    sizes: &[u8; BARRIER_COUNT],
+) -> usize
+    requires { ⌜ rows ≡ limits ⌝ }
+    requires { ⌜ recordLength * end ≤ length (now file) ⌝ }
+    ensures { λ r. ⌜ StretchRead (now (file .entry)) n (now (sizes .entry)) worker from end r ⌝ }
+{
+    let mut i = from;
+    while i < end {
+        let Decoded::Read(r) = decode(file, RECORD_LENGTH * i) else {
+            return i;
+        };
+        if r.worker != worker {
+            return i;
+        }
+        let at = place(r.op);
+        if at == ROW_COUNT {
+            return i;
+        }
+        let row = Row {
+            op: rows[at].op,
+            registers: rows[at].registers,
+            least: rows[at].least,
+            most: rows[at].most,
+        };
+        let rule = operand_rule(row, r, n, sizes);
+        let Rule::Holds = rule else {
+            return i;
+        };
+        i += 1;
+    }
+    i
+}
+
 // Reads the records from `start` on, which are the steps, by the table, and notes where each worker's begin; from worker n on
 // that is behind the last.
 fn read_by_table(
@@ -187,7 +238,8 @@ fn read_by_table(
         let worker = r.worker as usize;
         open_workers(firsts, opened, worker, i);
         opened = worker + 1;
-        i += 1;
+        let end = lesser(count, firsts[worker] + STEPS_LIMIT);
+        i = read_stretch(rows, file, i + 1, end, r.worker, n, sizes);
     }
     open_workers(firsts, opened, WORKERS_LIMIT, count);
     Verdict::Accepted

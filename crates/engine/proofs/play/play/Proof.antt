@@ -3,7 +3,7 @@ use borrow.Author.Needs.{needs}
 use native.Mathlib.Omega.{arith}
 use Prim.Native.Nat.{ℕ, _+_, _-_, _*_}
 use mathlib.Core.Bool.{cond}
-use mathlib.Core.Path.{_∙_, sym}
+use mathlib.Core.Path.{_∙_, refl, sym}
 use mathlib.Core.List.{List}
 use lib.ListN.{length}
 use Rattle.queue.specs.List.{listOf}
@@ -24,7 +24,7 @@ abbrev μ-loop : tie.MeasureT-loop
 
 -- the places that later needs look back to
 abbrev from-loop : tie.At-loop Inv-loop μ-loop → tie.Start Inv-loop μ-loop
-from-loop c = c .before .before .before .before .before .before .before .before .before .before .before .before
+from-loop c = c .before .before .before .before .before .before .before .before .before .before
 
 abbrev from-own : tie.After-play-own Inv-loop μ-loop → tie.At-loop Inv-loop μ-loop
 from-own c = c .before .before .before .before .before .before .before .before .before
@@ -47,14 +47,10 @@ first-round-requires c κs =
     let p = c .before .before .before .before .before .before .before .before .pre in
     (omega (arith, p .workers, plan-sound (p .named) .workers), p .bytes .memoryLength)
 
-again-requires : tie.Need-again-requires Inv-loop μ-loop
-again-requires c κs = search needs
-
 loop-holds : tie.Need-loop-holds Inv-loop μ-loop
 loop-holds c =
-    let begun = c .before .before in
-    let p = begun .before .before .before .before .before .before .before .before .before .pre in
-    goes-again p (begins p (begun .first-round .ensures)) (c .again .ensures)
+    let p = c .before .before .before .before .before .before .before .before .before .pre in
+    goes-on p (begins p (c .first-round .ensures)) (record { listed = λ e. refl; within = λ e. omega arith })
 
 play-own-requires : tie.Need-play-own-requires Inv-loop μ-loop
 play-own-requires c κs =
@@ -168,8 +164,8 @@ loop-again c =
     (stands-on p (lent l) (l .loop .fates) (l .loop .log) (l .loop .inv .so) (from-test u .play-own .ensures) (u .if1 .taken) (s .sync .ensures))
     (c .onward .ensures)
 
-again-requires-2 : tie.Need-again-requires-2 Inv-loop μ-loop
-again-requires-2 c κs = search needs
+again-requires : tie.Need-again-requires Inv-loop μ-loop
+again-requires c κs = search needs
 
 loop-less-2 : tie.Need-loop-less-2 Inv-loop μ-loop
 loop-less-2 c =
@@ -182,19 +178,19 @@ loop-less-2 c =
     let here = o .before .before .before .before .before .before .before .before .loop-test .taken in
     let turns = from-loop l .args .turns .now in
     falls _ {right = 2 * (2065 - l .loop .t .counts .moves) + unpicked turns (l .loop .can) (l .loop .i)}
-    {right′ = 2 * (2065 - o .play-own .result .moves) + unpicked turns (l .loop .can) (c .again2 .result)}
-    {left = length turns - l .loop .i} {left′ = length turns - c .again2 .result}
-    (λ e. right-falls _ _ (again-moves p e (c .again2 .ensures)) (no-fewer p (lent l) (l .loop .fates) (l .loop .log) so on)
+    {right′ = 2 * (2065 - o .play-own .result .moves) + unpicked turns (l .loop .can) (c .again .result)}
+    {left = length turns - l .loop .i} {left′ = length turns - c .again .result}
+    (λ e. right-falls _ _ (again-moves p e (c .again .ensures)) (no-fewer p (lent l) (l .loop .fates) (l .loop .log) so on)
     (few-moves p (went-on p (lent l) (l .loop .fates) (l .loop .log) so on)) (one-at-most turns (l .loop .can) (l .loop .i))
     (λ z. one-at-least p (lent l) (l .loop .fates) (l .loop .log) so on (omega (arith, here, e1 .if1 .left)) (sure turns (l .loop .can) (l .loop .i) here z)))
-    (λ e. omega (arith, here, e1 .if1 .left, c .again2 .ensures .listed e))
+    (λ e. omega (arith, here, e1 .if1 .left, c .again .ensures .listed e))
 
 loop-again-2 : tie.Need-loop-again-2 Inv-loop μ-loop
 loop-again-2 c =
     let o = c .before .before .before .before .before .before in
     let l = from-own o in
     let p = from-loop l .pre in
-    goes-again p (went-on p (lent l) (l .loop .fates) (l .loop .log) (l .loop .inv .so) (o .play-own .ensures)) (c .again2 .ensures)
+    goes-again p (went-on p (lent l) (l .loop .fates) (l .loop .log) (l .loop .inv .so) (o .play-own .ensures)) (c .again .ensures)
 
 same-length-4 : tie.Need-same-length-4 Inv-loop μ-loop
 same-length-4 c =
@@ -217,7 +213,6 @@ play-spec =
     Inv-loop
     μ-loop
     first-round-requires
-    again-requires
     loop-holds
     play-own-requires
     shared-slice-read-w
@@ -233,7 +228,7 @@ play-spec =
     onward-requires
     loop-less
     loop-again
-    again-requires-2
+    again-requires
     loop-less-2
     loop-again-2
     same-length-4

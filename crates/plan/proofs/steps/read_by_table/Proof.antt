@@ -9,14 +9,13 @@ use mathlib.Core.Option.{some}
 use lib.ListN.{getD}
 use Rattle.protocol.specs.Format.{isBarrier, isSleep, sleepersIn, workersLimit}
 use Rattle.protocol.specs.Refusals as protocol
-use Rattle.format.specs.Table.{limits}
-use Rattle.format.specs.declared.table.Row.{Row}
-use Rattle.format.proofs.Rows.{place-inside, no-row, row-at}
+use Rattle.format.proofs.Rows.{no-row}
 use Rattle.plan.specs.Answer.{ruleAs}
 use Rattle.plan.specs.Reading.{fileRecord, before, verdictFrom}
 use Rattle.plan.specs.Stepping.{keptRule}
+use Rattle.plan.proofs.Limited.{place-below, row-found}
 use Rattle.plan.proofs.Readings.{Body, verdict-step, unmarked-rule, not-refused}
-use Rattle.plan.proofs.Stepped.{StepsKept, OneStep, kept-first, begun-before, same-rule, no-step-rule, worker-below, step-more, read-through, records-read}
+use Rattle.plan.proofs.Stepped.{StepsKept, OneStep, kept-first, begun-before, same-rule, no-step-rule, worker-below, step-more, stretch-more, read-through, records-read}
 use Rattle.plan.proofs.steps.read_by_table.Statement.{statement}
 use Rattle.plan.proofs.steps.read_by_table.Tie as tie
 
@@ -117,44 +116,38 @@ returns-2 c =
 
 -- an op that has a row
 has-row : (c : tie.Else1 Inv-loop μ-loop) → c .before .place .result < 15
-has-row c = omega (arith, place-inside (body (c .before) .op), c .before .place .ensures, c .if1 .left)
+has-row c = let p = c .before in place-below (body p .op) _ _ (start p .pre .0) (p .place .ensures) (c .if1 .left)
 
-mul-t19 : tie.Need-mul-t19 Inv-loop μ-loop
-mul-t19 c = omega (arith, has-row c)
+mul-t20 : tie.Need-mul-t20 Inv-loop μ-loop
+mul-t20 c = omega (arith, has-row c)
 
-element-copy-out-t24 : tie.Need-element-copy-out-t24 Inv-loop μ-loop
-element-copy-out-t24 c = has-row c
+element-copy-out-t25 : tie.Need-element-copy-out-t25 Inv-loop μ-loop
+element-copy-out-t25 c = has-row c
 
-mul-t25 : tie.Need-mul-t25 Inv-loop μ-loop
-mul-t25 c = omega (arith, has-row c)
+mul-t26 : tie.Need-mul-t26 Inv-loop μ-loop
+mul-t26 c = omega (arith, has-row c)
 
-element-copy-out-t28 : tie.Need-element-copy-out-t28 Inv-loop μ-loop
-element-copy-out-t28 c = has-row c
+element-copy-out-t29 : tie.Need-element-copy-out-t29 Inv-loop μ-loop
+element-copy-out-t29 c = has-row c
 
-mul-t29 : tie.Need-mul-t29 Inv-loop μ-loop
-mul-t29 c = omega (arith, has-row c)
+mul-t30 : tie.Need-mul-t30 Inv-loop μ-loop
+mul-t30 c = omega (arith, has-row c)
 
-element-copy-out-t32 : tie.Need-element-copy-out-t32 Inv-loop μ-loop
-element-copy-out-t32 c = has-row c
+element-copy-out-t33 : tie.Need-element-copy-out-t33 Inv-loop μ-loop
+element-copy-out-t33 c = has-row c
 
-mul-t33 : tie.Need-mul-t33 Inv-loop μ-loop
-mul-t33 c = omega (arith, has-row c)
+mul-t34 : tie.Need-mul-t34 Inv-loop μ-loop
+mul-t34 c = omega (arith, has-row c)
 
-element-copy-out-t36 : tie.Need-element-copy-out-t36 Inv-loop μ-loop
-element-copy-out-t36 c = has-row c
+element-copy-out-t37 : tie.Need-element-copy-out-t37 Inv-loop μ-loop
+element-copy-out-t37 c = has-row c
 
 step-rule-requires : tie.Need-step-rule-requires Inv-loop μ-loop
 step-rule-requires c κs =
     let e = c .before in
     let p = e .before in
-    let k = p .place .result in
-    let d : Row = record { op = 0; registers = 0; least = 0; most = 0 } in
-    let same = p .place .ensures in
-    let row =
-    row-at (body p .op) d (let h = has-row e in omega arith)
-    ∙ (ap (λ (k : ℕ). some (getD limits k d)) (sym same) ∙ ap (λ (rows : List Row). some (getD rows k d)) (sym (start p .pre .0))) in
     let inv = at p .loop .inv in
-    (row, (inv .3 .few, (inv .1, begun-before (inv .3))))
+    (row-found (body p .op) _ _ (start p .pre .0) (p .place .ensures) (e .if1 .left) _, (inv .3 .few, (inv .1, begun-before (inv .3))))
 
 -- the place of the rule's record
 abbrev placed : tie.After-step-rule Inv-loop μ-loop → tie.After-place Inv-loop μ-loop
@@ -192,21 +185,65 @@ open-workers-requires c κs = omega (arith, fits (step (c .before .before)) (pas
 add-opened : tie.Need-add-opened Inv-loop μ-loop
 add-opened c = omega (arith, fits (step (c .before .before .before)) (passed (c .before .before .before)))
 
-add-i : tie.Need-add-i Inv-loop μ-loop
-add-i c = search needs
+-- the worker of the step is opened
+module _ (c : tie.After-open-workers Inv-loop μ-loop) where
+  abbrev taken : tie.After-enum-told2 Inv-loop μ-loop
+  taken = c .before .before .before
+
+  abbrev here : tie.After-place Inv-loop μ-loop
+  here = step taken
+
+  abbrev args : tie.Start Inv-loop μ-loop
+  args = start here
+
+  below : body here .worker < args .args .n
+  below = worker-below (one-step here) (passed taken)
+
+  after : StepsKept (args .args .file .now) (at here .loop .i + 1) (args .args .n) (args .args .sizes .now)
+      (sleepersIn (before (args .args .file .now) (args .args .start))) (body here .worker + 1) (c .open-workers .last .0)
+  after = step-more (one-step here) (passed taken) (c .open-workers .ensures)
+
+mul-lesser : tie.Need-mul-lesser Inv-loop μ-loop
+mul-lesser c = omega (arith, below c, args c .pre .1 .1 .0 .few)
+
+element-copy-out-lesser : tie.Need-element-copy-out-lesser Inv-loop μ-loop
+element-copy-out-lesser c = omega (arith, below c, args c .pre .1 .1 .0 .few)
+
+add-lesser : tie.Need-add-lesser Inv-loop μ-loop
+add-lesser c =
+    let o = c .before in
+    let l = in-loop (here o) in
+    omega (arith, begun-before (after o) (body (here o) .worker) (omega arith), l .loop-test .taken, args o .pre .1 .0, l .before .before)
+
+lesser-requires : tie.Need-lesser-requires Inv-loop μ-loop
+lesser-requires c κs = search needs
+
+add-read-stretch : tie.Need-add-read-stretch Inv-loop μ-loop
+add-read-stretch c = search needs
+
+read-stretch-requires : tie.Need-read-stretch-requires Inv-loop μ-loop
+read-stretch-requires c κs = let p = args (c .before .before) .pre in (p .0, omega (arith, c .lesser .ensures, p .1 .0))
 
 loop-less : tie.Need-loop-less Inv-loop μ-loop
-loop-less c = search needs
+loop-less c =
+    omega (arith, c .read-stretch .ensures .least, in-loop (here (c .before .before .before)) .loop-test .taken)
 
 loop-again : tie.Need-loop-again Inv-loop μ-loop
 loop-again c =
-    let t = c .before .before .before in
-    let below = worker-below (one-step (step t)) (passed t) in (
-      omega arith,
-      omega arith,
-      λ z. absurd (omega arith),
-      step-more (one-step (step t)) (passed t) (c .open-workers .ensures),
-      goes-on (step t) (passed t),
+    let o = c .before .before .before in
+    let s = c .read-stretch .ensures in
+    let a = args o .args in
+    let i = at (here o) .loop .i in
+    let taken-here = in-loop (here o) .loop-test .taken in
+    let end = c .before .lesser .ensures in
+    let most = s .most in
+    let inside : (j : ℕ) → i + 1 ≤ j → j < c .read-stretch .result → (j < a .count) × (j < getD (o .open-workers .last .0) (body (here o) .worker) 0 + 128) = λ j l m. (omega arith, omega arith) in
+    let on = stretch-more refl (omega (arith, below o)) (a .count) (c .read-stretch .result - (i + 1)) (let l = s .least in omega arith) (after o) inside (s .plain) in (
+      omega (arith, taken-here, end, most),
+      omega (arith, below o),
+      λ z. absurd (omega (arith, z)),
+      on .0,
+      on .1 ∙ goes-on (here o) (passed (taken o)),
     )
 
 open-workers-requires-2 : tie.Need-open-workers-requires-2 Inv-loop μ-loop
@@ -242,14 +279,14 @@ read-by-table-spec =
     place-requires
     no-step-requires
     returns-2
-    mul-t19
-    element-copy-out-t24
-    mul-t25
-    element-copy-out-t28
-    mul-t29
-    element-copy-out-t32
-    mul-t33
-    element-copy-out-t36
+    mul-t20
+    element-copy-out-t25
+    mul-t26
+    element-copy-out-t29
+    mul-t30
+    element-copy-out-t33
+    mul-t34
+    element-copy-out-t37
     step-rule-requires
     enum-known-rule
     returns-3
@@ -257,7 +294,12 @@ read-by-table-spec =
     cast-worker
     open-workers-requires
     add-opened
-    add-i
+    mul-lesser
+    element-copy-out-lesser
+    add-lesser
+    lesser-requires
+    add-read-stretch
+    read-stretch-requires
     loop-less
     loop-again
     open-workers-requires-2

@@ -16,8 +16,8 @@ bad-worker-requires c κs = search needs
 
 returns : tie.Need-returns
 returns c =
-    let row = c .before .before .before .pre .0 in
-    simp (not-plan-record _ _ row, not-barrier-record _ _ row, not-sleep-record _ _ row, is-known _ _ row, ← c .before .bad-worker .ensures, c .if1 .taken)
+    let known = is-known _ _ (c .before .before .before .pre .0) in
+    simp (not-plan-record _ known, not-barrier-record _ known, not-sleep-record _ known, known, ← c .before .bad-worker .ensures, c .if1 .taken)
 
 steps-read-requires : tie.Need-steps-read-requires
 steps-read-requires c κs =
@@ -27,12 +27,12 @@ steps-read-requires c κs =
 
 returns-2 : tie.Need-returns-2
 returns-2 c =
-    let row = c .before .before .before .before .before .pre .0 in
+    let known = is-known _ _ (c .before .before .before .before .before .pre .0) in
     simp (
-      not-plan-record _ _ row,
-      not-barrier-record _ _ row,
-      not-sleep-record _ _ row,
-      is-known _ _ row,
+      not-plan-record _ known,
+      not-barrier-record _ known,
+      not-sleep-record _ known,
+      known,
       ← c .before .before .before .bad-worker .ensures,
       c .before .before .if1 .left,
       ← c .before .steps-read .ensures,
@@ -44,12 +44,12 @@ operand-rule-requires c κs = search needs
 
 returns-3 : tie.Need-returns-3
 returns-3 c =
-    let row = c .before .before .before .before .before .before .pre .0 in
+    let known = is-known _ _ (c .before .before .before .before .before .before .pre .0) in
     simp (
-      not-plan-record _ _ row,
-      not-barrier-record _ _ row,
-      not-sleep-record _ _ row,
-      is-known _ _ row,
+      not-plan-record _ known,
+      not-barrier-record _ known,
+      not-sleep-record _ known,
+      known,
       ← c .before .before .before .before .bad-worker .ensures,
       c .before .before .before .if1 .left,
       ← c .before .before .steps-read .ensures,
