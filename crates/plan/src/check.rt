@@ -98,30 +98,29 @@ pub fn check(file: &[u8]) -> Checked
         return refused(f, i);
     }
     let sizes = barriers.sizes;
-    let mut fates = [GOING; WORKERS_LIMIT];
-    let sleepers = read_sleepers(file, count, first.worker, barriers.next, &mut fates);
+    // It is filled in its place: arrays that are copied into it would stall on the bytes just written.
+    let mut layout = Layout {
+        workers: first.worker,
+        sizes,
+        firsts: [0usize; WORKERS_LIMIT + 1],
+        fates: [GOING; WORKERS_LIMIT],
+    };
+    let sleepers = read_sleepers(file, count, first.worker, barriers.next, &mut layout.fates);
     let verdict = sleepers.verdict;
     if let Verdict::Refused(f, i) = verdict {
         return refused(f, i);
     }
-    let mut firsts = [0usize; WORKERS_LIMIT + 1];
     let verdict = read_steps(
         file,
         count,
         first.worker,
         &sizes,
         sleepers.next,
-        &mut firsts,
+        &mut layout.firsts,
     );
     if let Verdict::Refused(f, i) = verdict {
         return refused(f, i);
     }
-    let verdict = check_skips(file, count, &firsts);
-    let layout = Layout {
-        workers: first.worker,
-        sizes,
-        firsts,
-        fates,
-    };
+    let verdict = check_skips(file, count, &layout.firsts);
     Checked { verdict, layout }
 }

@@ -213,7 +213,7 @@ enum-told-4 c = search needs
 
 check-skips-requires : tie.Need-check-skips-requires
 check-skips-requires c κs =
-    let e = c .before in
+    let e = c .before .before in
     let r = e .before .before in
     let s = sizedAt (planned (barred (slept r .before .before))) in
     let all = r .read-steps .ensures .read (ap verdictOf (e .enum-told4 .given .1)) in
@@ -221,7 +221,7 @@ check-skips-requires c κs =
 
 returns-7 : tie.Need-returns-7
 returns-7 c =
-    let e = c .before .before in
+    let e = c .before .before .before in
     let r = e .before .before in
     let d = slept r .before .before in
     let b = barred d in
