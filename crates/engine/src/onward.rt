@@ -11,8 +11,8 @@ pub const STRETCH: usize = 32;
 
 pub const CYCLES: usize = STRETCH * WORKERS_LIMIT;
 
-// Behind a synchronising move: the next turn of a list; in a run to the end the holder's stretch or, as long as some are away, the cycles.
-// No worker is looked for here: which one it would be cannot be foretold by the processor, and costs more than turns that pass.
+// Behind a synchronising move: the next turn of a list; in a run to the end the holder's stretch or, as long as some are away, the cycles,
+// no matter where. No worker is looked for here: which one it would be cannot be foretold by the processor, and costs more than turns that pass.
 pub fn onward(whole: bool, away: u64, first: u64, next: usize) -> usize
     requires { ⌜ first < workersLimit ⌝ }
     ensures { λ i. ⌜ Onward whole next i ⌝ }
@@ -21,10 +21,7 @@ pub fn onward(whole: bool, away: u64, first: u64, next: usize) -> usize
         if away == 0 {
             return CYCLES + STRETCH * (first as usize);
         }
-        if next < CYCLES {
-            return next;
-        }
-        return 0;
+        return next % CYCLES;
     }
     next
 }

@@ -15,13 +15,10 @@ returns : tie.Need-returns
 returns c = record { listed = λ e. clash (sym e ∙ c .before .if1 .taken); within = λ e. omega (arith, c .before .before .pre) }
 
 returns-2 : tie.Need-returns-2
-returns-2 c = record { listed = λ e. refl; within = λ e. omega (arith, c .if3 .taken) }
+returns-2 c = record { listed = λ e. clash (sym e ∙ c .before .if1 .taken); within = λ e. omega arith }
 
 returns-3 : tie.Need-returns-3
-returns-3 c = record { listed = λ e. clash (sym e ∙ c .before .before .if1 .taken); within = λ e. omega arith }
-
-returns-4 : tie.Need-returns-4
-returns-4 c = record { listed = λ e. refl; within = λ e. clash (sym (c .if1 .left) ∙ e) }
+returns-3 c = record { listed = λ e. refl; within = λ e. clash (sym (c .if1 .left) ∙ e) }
 
 pub onward-spec : {M : Type 1} → statement M
-onward-spec = tie.close (tie.spec mul-result add-result returns returns-2 returns-3 returns-4)
+onward-spec = tie.close (tie.spec mul-result add-result returns returns-2 returns-3)
