@@ -100,7 +100,6 @@ pub fn hold(
     let d = decide(r.op, r.number, w, count, sizes, lists, fates);
     let after = d.lists;
     let bytes = d.bytes;
-    let moved = settle_bytes(bytes, w, memory, work, copied, t.sum);
     let v = Worker {
         place: places[w],
         held: count,
@@ -108,6 +107,9 @@ pub fn hold(
     };
     let stepped = v.synchronise(d.held, d.outcome);
     let v = stepped.worker;
+    places[w] = v.place;
+    held[w] = v.held;
+    let moved = settle_bytes(bytes, w, memory, work, copied, t.sum);
     let records = record_step(r, w, stepped.outcome, counts.rounds, counts.records, log);
     let list = after.list;
     let next = after.next;
@@ -115,8 +117,6 @@ pub fn hold(
     let round = turn_over(list, next, w, counts.rounds, can);
     let here = round.list;
     let later = round.next;
-    places[w] = v.place;
-    held[w] = v.held;
     Schedule {
         lists: Lists {
             list: here,

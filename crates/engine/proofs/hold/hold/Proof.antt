@@ -15,14 +15,14 @@ use Rattle.engine.proofs.hold.hold.Tie as tie
 abbrev from-decide : tie.After-decide → tie.Start
 from-decide c = c .before .before .before .before .before .before .before .before
 
-abbrev from-bytes : tie.After-settle-bytes → tie.After-decide
+abbrev from-step : tie.After-synchronise → tie.After-decide
+from-step c = c .before .before .before .before
+
+abbrev from-bytes : tie.After-settle-bytes → tie.After-synchronise
 from-bytes c = c .before .before .before .before
 
-abbrev from-step : tie.After-synchronise → tie.After-settle-bytes
-from-step c = c .before .before .before .before .before
-
-abbrev from-record : tie.After-record-step → tie.After-synchronise
-from-record c = c .before .before .before
+abbrev from-record : tie.After-record-step → tie.After-settle-bytes
+from-record c = c .before .before .before .before
 
 abbrev from-turn : tie.After-turn-over → tie.After-record-step
 from-turn c = c .before .before .before .before .before .before .before
@@ -31,8 +31,8 @@ from-turn c = c .before .before .before .before .before .before .before
 named : (c : tie.Start) → c .args .w < workersLimit
 named c = small (c .pre .1 .here)
 
-named-late : (c : tie.After-settle-bytes) → from-decide (from-bytes c) .args .w < workersLimit
-named-late c = named (from-decide (from-bytes c))
+named-late : (c : tie.After-decide) → from-decide c .args .w < workersLimit
+named-late c = named (from-decide c)
 
 mul-count : tie.Need-mul-count
 mul-count c = omega (arith, named (c .before .before .before))
@@ -43,29 +43,41 @@ element-copy-out-count c = omega (arith, named (c .before .before .before))
 decide-requires : tie.Need-decide-requires
 decide-requires c κs = deciding (c .before .before .before .before .before .before .before .pre .1)
 
-settle-bytes-requires : tie.Need-settle-bytes-requires
-settle-bytes-requires c κs =
-    let p = from-decide (c .before .before .before) .pre .1 .here in
-    (p .refines .bytes .sizes, small p, p .refines .sum ∙ ap sumOf (p .refines .bytes .shared))
-
 mul-held : tie.Need-mul-held
-mul-held c = omega (arith, named-late (c .before .before))
+mul-held c = omega (arith, named-late (c .before))
 
 element-copy-out-held : tie.Need-element-copy-out-held
-element-copy-out-held c = omega (arith, named-late (c .before .before))
+element-copy-out-held c = omega (arith, named-late (c .before))
 
-mul-t42 : tie.Need-mul-t42
-mul-t42 c = omega (arith, named-late (c .before .before .before))
+mul-t39 : tie.Need-mul-t39
+mul-t39 c = omega (arith, named-late (c .before .before))
 
 element-copy-out-t34 : tie.Need-element-copy-out-t34
-element-copy-out-t34 c = omega (arith, named-late (c .before .before .before))
+element-copy-out-t34 c = omega (arith, named-late (c .before .before))
 
 synchronise-requires : tie.Need-synchronise-requires
-synchronise-requires c κs = place-small (from-decide (from-bytes (c .before .before .before .before)) .pre .1 .here)
+synchronise-requires c κs = place-small (from-decide (c .before .before .before) .pre .1 .here)
+
+mul-places : tie.Need-mul-places
+mul-places c = omega (arith, named-late (from-step (c .before)))
+
+element-write-places : tie.Need-element-write-places
+element-write-places c = omega (arith, named-late (from-step (c .before)))
+
+mul-held-2 : tie.Need-mul-held-2
+mul-held-2 c = omega (arith, named-late (from-step (c .before)))
+
+element-write-held : tie.Need-element-write-held
+element-write-held c = omega (arith, named-late (from-step (c .before)))
+
+settle-bytes-requires : tie.Need-settle-bytes-requires
+settle-bytes-requires c κs =
+    let p = from-decide (from-step (c .before .before .before)) .pre .1 .here in
+    (p .refines .bytes .sizes, small p, p .refines .sum ∙ ap sumOf (p .refines .bytes .shared))
 
 record-step-requires : tie.Need-record-step-requires
 record-step-requires c κs =
-    let d = from-bytes (from-step (c .before .before)) in
+    let d = from-step (from-bytes (c .before .before .before)) in
     let p = from-decide d .pre in
     let q = deciding (p .1) in
     let k = records-fit (p .1) (d .decide .ensures) (p .0) in
@@ -74,26 +86,14 @@ record-step-requires c κs =
 
 turn-over-requires : tie.Need-turn-over-requires
 turn-over-requires c κs =
-    let d = from-bytes (from-step (from-record (c .before .before .before .before .before .before))) in
+    let d = from-step (from-bytes (from-record (c .before .before .before .before .before .before))) in
     let p = from-decide d .pre in
     let x = d .decide .ensures in
     (small (p .1 .here), rounds-fit (p .1), list-below (p .1) x (p .0), x .carried .moved .next .good, next-below (p .1) x (p .0))
 
-mul-places : tie.Need-mul-places
-mul-places c = omega (arith, named-late (from-step (from-record (from-turn (c .before .before)))))
-
-element-write-places : tie.Need-element-write-places
-element-write-places c = omega (arith, named-late (from-step (from-record (from-turn (c .before .before)))))
-
-mul-held-2 : tie.Need-mul-held-2
-mul-held-2 c = omega (arith, named-late (from-step (from-record (from-turn (c .before .before)))))
-
-element-write-held : tie.Need-element-write-held
-element-write-held c = omega (arith, named-late (from-step (from-record (from-turn (c .before .before)))))
-
 add-t34 : tie.Need-add-t34
 add-t34 c =
-    let d = from-bytes (from-step (from-record (from-turn (c .before .before .before)))) in
+    let d = from-step (from-bytes (from-record (from-turn (c .before .before .before)))) in
     omega (arith, moves-small (from-decide d .pre .1 .here))
 
 same-length : tie.Need-same-length
@@ -106,9 +106,9 @@ returns : tie.Need-returns
 returns c =
     let turned = c .before .before .before in
     let recorded = from-turn turned in
-    let stepped = from-record recorded in
-    let bytes = from-step stepped in
-    let decided = from-bytes bytes in
+    let bytes = from-record recorded in
+    let stepped = from-bytes bytes in
+    let decided = from-step stepped in
     let p = from-decide decided .pre in
     λ h.
     shown h (decided .decide .ensures) (p .0)
@@ -128,18 +128,18 @@ hold-spec =
     mul-count
     element-copy-out-count
     decide-requires
-    settle-bytes-requires
     mul-held
     element-copy-out-held
-    mul-t42
+    mul-t39
     element-copy-out-t34
     synchronise-requires
-    record-step-requires
-    turn-over-requires
     mul-places
     element-write-places
     mul-held-2
     element-write-held
+    settle-bytes-requires
+    record-step-requires
+    turn-over-requires
     add-t34
     same-length
     same-length-2
