@@ -13,7 +13,7 @@ use Rattle.protocol.proofs.Bytes.{end-byte}
 use Rattle.protocol.proofs.Demand3.{demand3-file}
 use Rattle.protocol.proofs.Batches.{endOfPlan, separate-accepted, separate-refused}
 use Rattle.tampermauve.specs.Run.{Ran}
-use Rattle.tampermauve.proofs.Admitting.{none-refused}
+use Rattle.admission.proofs.Admitting.{none-refused}
 use Rattle.journal.specs.Offsets.{reportEnd}
 use Rattle.listed.specs.Listed.{listedRun, RanToEnd}
 

@@ -21,7 +21,7 @@ use Rattle.protocol.proofs.Logged.{played-rounds}
 use Rattle.words.specs.Bytes.{wordAt}
 use Rattle.journal.specs.Offsets.{reportEnd, reportRecords, entriesLimit}
 use Rattle.listed.specs.Listed.{listedRun, RanToEnd}
-use Rattle.tampermauve.proofs.Admitting.{none-refused}
+use Rattle.admission.proofs.Admitting.{none-refused}
 use Rattle.text.specs.Text.{Wrote, entriesFrom, endNumbered, lastLine}
 use Rattle.listed.specs.Text.{WroteListing}
 use Rattle.text.proofs.Entries.{entries-back}

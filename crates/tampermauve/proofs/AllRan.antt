@@ -14,8 +14,9 @@ use Rattle.protocol.specs.Demands.{EachLeft}
 use Rattle.protocol.proofs.FirstDue.{same-length}
 use Rattle.protocol.proofs.BatchDue.{evenly-lent}
 use Rattle.protocol.proofs.Batches.{each-left}
-use Rattle.tampermauve.specs.All.{batch, sizesOf, batchCode, RanPlans, RanAll}
-use Rattle.tampermauve.proofs.Admitting.{none-refused}
+use Rattle.admission.specs.Plans.{sizesOf, batchCode}
+use Rattle.tampermauve.specs.All.{batch, RanPlans, RanAll}
+use Rattle.admission.proofs.Admitting.{none-refused}
 
 tests-passed : (w p s : Bool) → codeOf (batchBy w p s) ≡ 0 → (w ≡ false) × (p || s ≡ false)
 tests-passed true p s e = absurd (omega (arith, e))

@@ -21,7 +21,7 @@ use Rattle.plan.specs.declared.check.Layout.{Layout}
 use Rattle.engine.specs.Turning.{stretch, cycleTurns, Stretches}
 use Rattle.tampermauve.specs.Run.{Performing, Performed}
 use Rattle.tampermauve.specs.All.{turnAt, Stretched, RanAlone}
-use Rattle.tampermauve.proofs.Admitting.{plan-workers}
+use Rattle.admission.proofs.Admitting.{plan-workers}
 use Rattle.tampermauve.proofs.Entering.{laid-out}
 
 -- each turn names a worker that some plan may have, and each stretch begins with its worker

@@ -19,9 +19,10 @@ use Rattle.protocol.proofs.FirstDue.{fitting}
 use Rattle.plan.specs.Checking.{LaidOut}
 use Rattle.plan.specs.declared.check.Layout.{Layout}
 use Rattle.engine.specs.Moving.{Laid}
-use Rattle.tampermauve.specs.Run.{lengthsOf, answerBy, Admits, Performing}
-use Rattle.tampermauve.specs.declared.admit.Admitted.{Admitted}
-use Rattle.tampermauve.proofs.Admitting.{plan-workers}
+use Rattle.admission.specs.Run.{lengthsOf, answerBy, Admits}
+use Rattle.tampermauve.specs.Run.{Performing}
+use Rattle.admission.specs.declared.run.Admitted.{Admitted}
+use Rattle.admission.proofs.Admitting.{plan-workers}
 use Rattle.tampermauve.proofs.Ran.{Cleared, passed}
 
 -- where no turn names nobody, each names a worker below n

@@ -1,5 +1,3 @@
--- The tests of a run.
-pub mod Admitting
 -- The report from the code's numbers is that of the state that they show.
 pub mod Reported
 -- What a run leaves in the buffers is what the state at its end gives.
@@ -8,11 +6,7 @@ pub mod Left
 pub mod Ran
 -- What an admitted run goes in with.
 pub mod Entering
--- The tests of a call with many plans.
-pub mod Uneven
--- Where its files begin.
-pub mod Beginning
--- What one plan of it takes and leaves.
+-- What one plan of a call with many takes and leaves.
 pub mod Alone
 -- What plan after plan leaves.
 pub mod PlanByPlan

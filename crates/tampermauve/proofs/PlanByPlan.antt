@@ -18,7 +18,7 @@ use Rattle.protocol.proofs.BatchParts.{parts-length}
 use Rattle.protocol.proofs.Batches.{Sized, parts-fit, Separately, separately, Alike, alike, plans-sized}
 use Rattle.tampermauve.specs.Run.{lent}
 use Rattle.tampermauve.specs.All.{batch, Stretched, RanAlone, RanPlans}
-use Rattle.tampermauve.proofs.Beginning.{begins-next, begins-within}
+use Rattle.admission.proofs.Beginning.{begins-next, begins-within}
 
 -- what stands before plan k, whose file begins at `at`
 pub record EachSoFar (files lengths : List ℕ) (count : ℕ) (b : Batch) (turns : List ℕ) (k at : ℕ) (accepted : Bool) (d : Batch) : Type 0 where

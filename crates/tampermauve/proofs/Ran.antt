@@ -13,8 +13,9 @@ use Rattle.protocol.specs.Calls.{Buffers, Reply, buffersOf, misfit, namesNobody
 use Rattle.protocol.specs.Demands.{Demand3Bytes, SumShown}
 use Rattle.protocol.proofs.Bytes.{demand3-bytes}
 use Rattle.protocol.proofs.Numbered.{numbered}
-use Rattle.tampermauve.specs.Run.{answerBy, Ran}
-use Rattle.tampermauve.proofs.Admitting.{none-refused}
+use Rattle.admission.specs.Run.{answerBy}
+use Rattle.tampermauve.specs.Run.{Ran}
+use Rattle.admission.proofs.Admitting.{none-refused}
 
 -- what an answer of 0 says of the tests
 pub record Cleared (m t : Bool) (v : Verdict) (s : Bool) : Type 0 where

@@ -1,41 +1,19 @@
--- Many plans in one call: what it is admitted by, what one plan of it takes and leaves, and what the call ensures.
+-- Many plans in one call: what one plan of it takes and leaves, and what the call ensures.
 use Prim.Native.Nat.{ℕ, _-_, _*_, _/_, _%_, _<_}
-use mathlib.Core.Bool.{Bool, true, false, cond, not}
+use mathlib.Core.Bool.{Bool, true, false, cond}
 use mathlib.Core.Path.{_≡_}
 use mathlib.Core.List.{List}
-use lib.Dec.{ltb, eqb}
+use lib.Dec.{ltb}
 use lib.ListN.{length, getD, replicate}
 use Rattle.protocol.specs.Format.{workersLimit}
-use Rattle.protocol.specs.Refusals.{codeOf}
 use Rattle.protocol.specs.Calls.{Buffers, workLength}
-use Rattle.protocol.specs.Batch.{Batch, BatchReply, beginsAt, unevenBy, batchBy, answerOf, separate, runPlans, runAll}
+use Rattle.protocol.specs.Batch.{Batch, BatchReply, answerOf, separate, runPlans, runAll}
 use Rattle.protocol.specs.Demands.{EachLeft}
 use Rattle.engine.specs.Turning.{stretch, cycleTurns}
-use Rattle.tampermauve.specs.declared.batch.BatchLengths.{BatchLengths}
 
 abbrev pub batch : List ℕ → List ℕ → List ℕ → List ℕ → List ℕ → Batch
 batch memories logs reports answers work =
     record { memories = memories; logs = logs; reports = reports; answers = answers; work = work }
-
-abbrev pub sizesOf : List ℕ → List ℕ → Batch → BatchLengths
-sizesOf files lengths b =
-    record {
-      files = length files;
-      lengths = length lengths;
-      memories = length (b .memories);
-      logs = length (b .logs);
-      reports = length (b .reports);
-      answers = length (b .answers);
-      work = length (b .work);
-    }
-
-abbrev pub unevenly : ℕ → BatchLengths → Bool
-unevenly count l = unevenBy count (l .lengths) (l .memories) (l .logs) (l .reports) (l .answers)
-
--- the number for C, by the lengths
-abbrev pub batchCode : ℕ → List ℕ → BatchLengths → ℕ
-batchCode count lengths l =
-    codeOf (batchBy (not (eqb (l .work) workLength)) (unevenly count l) (not (eqb (beginsAt lengths count) (l .files))))
 
 -- the turns that each plan is run with: cycles of all workers, and behind them a stretch of each worker
 abbrev pub turnAt : ℕ → ℕ

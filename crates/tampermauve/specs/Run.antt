@@ -1,39 +1,19 @@
--- What a run is admitted by, and what the call ensures.
+-- What a plan that is played takes and leaves, and what the call of a run ensures.
 use Prim.Native.Nat.{ℕ}
 use mathlib.Core.Bool.{Bool, true, false}
 use mathlib.Core.Path.{_≡_}
 use mathlib.Core.List.{List}
-use lib.Dec.{ltb}
 use lib.ListN.{length}
 use Rattle.protocol.specs.Format.{planOf}
-use Rattle.protocol.specs.Refusals.{codeOf, check}
-use Rattle.protocol.specs.Turns.{workersOf, ended}
+use Rattle.protocol.specs.Turns.{ended}
 use Rattle.protocol.specs.Report.{reportBytes}
-use Rattle.protocol.specs.Calls.{Buffers, Reply, reportLength, turnsLimit, misfitBy, namesNobody, verdictBy, lentLog, playedFrom, run}
+use Rattle.protocol.specs.Calls.{Buffers, Reply, reportLength, lentLog, playedFrom, run}
 use Rattle.protocol.specs.Demands.{Demand3Bytes, SumShown}
-use Rattle.plan.specs.Checking.{LaidOut}
 use Rattle.plan.specs.declared.check.Layout.{Layout}
 use Rattle.engine.specs.Turning.{Playing}
-use Rattle.tampermauve.specs.declared.admit.Lengths.{Lengths}
-use Rattle.tampermauve.specs.declared.admit.Admitted.{Admitted}
 
 abbrev pub lent : List ℕ → List ℕ → List ℕ → List ℕ → Buffers
 lent memory log report work = record { memory = memory; log = log; report = report; work = work }
-
-abbrev pub lengthsOf : Buffers → Lengths
-lengthsOf b = record { memory = length (b .memory); log = length (b .log); report = length (b .report); work = length (b .work) }
-
-abbrev pub unfit : Lengths → Bool
-unfit l = misfitBy (l .memory) (l .log) (l .report) (l .work)
-
--- the number for C, by whether the buffers' lengths are wrong
-abbrev pub answerBy : List ℕ → List ℕ → Bool → ℕ
-answerBy file turns buffers =
-    codeOf (verdictBy buffers (ltb turnsLimit (length turns)) (check file) (namesNobody (workersOf (planOf file)) turns))
-
-pub record Admits (file turns : List ℕ) (l : Lengths) (a : Admitted) : Type 0 where
-  pub code : a .code ≡ answerBy file turns (unfit l)
-  pub layout : a .code ≡ 0 → LaidOut file (a .layout)
 
 -- what playing an accepted file and closing its buffers takes
 pub record Performing (file : List ℕ) (l : Layout) (turns : List ℕ) (whole : Bool) (memory log report work : List ℕ) : Type 0 where

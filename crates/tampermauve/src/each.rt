@@ -1,7 +1,7 @@
 // Plan after plan, each to its end.
-use crate::ACCEPTED;
-use crate::batch::LENGTH_BYTES;
 use crate::perform::perform;
+use admission::ACCEPTED;
+use admission::batch::LENGTH_BYTES;
 use engine::onward::CYCLES;
 use engine::onward::STRETCH;
 use format::limits::WORKERS_LIMIT;

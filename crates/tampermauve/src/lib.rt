@@ -1,25 +1,21 @@
 // The host calls.
-mod admit;
-mod batch;
 mod each;
 mod perform;
 
-use crate::admit::Lengths;
-use crate::admit::admit;
-use crate::batch::BatchLengths;
-use crate::batch::admit_batch;
 use crate::each::clear_if;
 use crate::each::run_plans;
 use crate::perform::perform;
+use admission::ACCEPTED;
+use admission::batch::BatchLengths;
+use admission::batch::admit_batch;
+use admission::run::Lengths;
+use admission::run::admit;
 use plan::answer::code;
 use plan::check::check;
 ghost use mathlib.Core.Path.{_≡_};
 ghost use Rattle.protocol.specs.Calls.{checkCode};
 ghost use Rattle.tampermauve.specs.Run.{lent, Ran};
 ghost use Rattle.tampermauve.specs.All.{batch, RanAll};
-
-// What a call that is not refused returns.
-pub const ACCEPTED: u32 = 0;
 
 // ACCEPTED for a plan file that is accepted, else the refusal + 256 × the index of its record.
 #[no_mangle]

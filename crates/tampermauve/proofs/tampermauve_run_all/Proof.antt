@@ -5,7 +5,8 @@ use Prim.Native.Nat.{ℕ}
 use mathlib.Core.Path.{_≡_, sym, _∙_}
 use mathlib.Core.List.{List}
 use Rattle.protocol.specs.Batch.{Batch}
-use Rattle.tampermauve.specs.All.{batch, sizesOf, batchCode}
+use Rattle.admission.specs.Plans.{sizesOf, batchCode}
+use Rattle.tampermauve.specs.All.{batch}
 use Rattle.tampermauve.proofs.AllRan.{work-fits, even, refused-all, accepted-all}
 use Rattle.tampermauve.proofs.tampermauve_run_all.Statement.{statement}
 use Rattle.tampermauve.proofs.tampermauve_run_all.Tie as tie

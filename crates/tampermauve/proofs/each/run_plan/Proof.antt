@@ -7,7 +7,7 @@ use Rattle.protocol.specs.Refusals.{Verdict, accepted, codeOf, check}
 use Rattle.protocol.specs.Calls.{Buffers}
 use Rattle.protocol.proofs.Accepted.{check-index}
 use Rattle.tampermauve.specs.Run.{lent}
-use Rattle.tampermauve.proofs.Admitting.{good}
+use Rattle.admission.proofs.Admitting.{good}
 use Rattle.tampermauve.proofs.Alone.{performs, refused-alone, accepted-alone}
 use Rattle.tampermauve.proofs.each.run_plan.Statement.{statement}
 use Rattle.tampermauve.proofs.each.run_plan.Tie as tie
