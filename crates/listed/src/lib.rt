@@ -3,12 +3,12 @@ mod run;
 mod turns;
 
 use crate::run::run_listed;
+use admission::ACCEPTED;
 use journal::log::ENTRIES_LIMIT;
 use journal::log::LOG_LENGTH;
 use journal::report::REPORT_LENGTH;
 use journal::report::REPORT_RECORDS;
 use libc::STDOUT_FILENO;
-use tampermauve::ACCEPTED;
 use text::lines::END_LINE_LIMIT;
 use text::lines::RECORD_LINE_LIMIT;
 use text::lines::write_end;
