@@ -27,7 +27,7 @@ use Rattle.rules.specs.Codes.{fateCode}
 use Rattle.format.specs.Fates.{codeAsleep}
 use Rattle.rules.specs.Rules.{found, sleepersAt, calledBy}
 use Rattle.rules.proofs.Codes.{code-asleep}
-use Rattle.rules.proofs.Moving.{queue-coded}
+use Rattle.rules.proofs.Found.{queue-coded}
 use Rattle.engine.specs.Kept.{Kept}
 use Rattle.engine.specs.Refines.{awayIn, Refines}
 use Rattle.engine.specs.declared.state.Schedule.{Schedule}

@@ -26,9 +26,9 @@ use Rattle.worker.specs.Private.{viewed, heldAs}
 use Rattle.worker.specs.declared.Worker.{Worker}
 use Rattle.queue.specs.List.{Holds}
 use Rattle.journal.specs.declared.report.Counts.{Counts}
-use Rattle.rules.specs.declared.lists.Lists.{Lists}
+use Rattle.decisions.specs.declared.lists.Lists.{Lists}
 use Rattle.rules.specs.Codes.{fateCode}
-use Rattle.rules.specs.Moves.{ListsMoved}
+use Rattle.decisions.specs.Moves.{ListsMoved}
 use Rattle.token.specs.Token.{TurnedOver}
 use Rattle.token.specs.declared.Round.{Round}
 use Rattle.engine.specs.declared.state.Schedule.{Schedule}

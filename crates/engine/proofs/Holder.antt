@@ -24,14 +24,14 @@ use Rattle.journal.proofs.Packing.{record-more}
 use Rattle.token.specs.Token.{TurnedOver}
 use Rattle.token.specs.declared.Round.{Round}
 use Rattle.rules.specs.Codes.{syncOf}
-use Rattle.rules.specs.Moves.{ListsMoved}
-use Rattle.rules.specs.Fates.{FatesSettled}
-use Rattle.rules.specs.Deciding.{Deciding, Decided}
+use Rattle.decisions.specs.Moves.{ListsMoved}
+use Rattle.decisions.specs.Fates.{FatesSettled}
+use Rattle.decisions.specs.Deciding.{Deciding, Decided}
 use Rattle.rules.proofs.Codes.{op-sync, operand-sync}
 use Rattle.moves.specs.Moves.{InRange}
 use Rattle.moves.proofs.Owned.{sync-kind}
 use Rattle.engine.specs.declared.state.Schedule.{Schedule}
-use Rattle.rules.specs.declared.decision.Decision.{Decision}
+use Rattle.decisions.specs.declared.decision.Decision.{Decision}
 use Rattle.engine.specs.Kept.{Kept, privateOf}
 use Rattle.engine.specs.Holding.{BytesSettled}
 use Rattle.engine.specs.Moving.{stateOf, Syncing, AfterMove}

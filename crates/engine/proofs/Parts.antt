@@ -21,7 +21,7 @@ use Rattle.worker.specs.declared.Worker.{Worker}
 use Rattle.queue.specs.declared.Queue.{Queue}
 use Rattle.queue.specs.List.{listOf, Holds}
 use Rattle.journal.specs.declared.report.Counts.{Counts}
-use Rattle.rules.specs.declared.lists.Lists.{Lists}
+use Rattle.decisions.specs.declared.lists.Lists.{Lists}
 use Rattle.rules.specs.Codes.{fateCode}
 use Rattle.token.specs.Token.{raised, NewRound, SameRound, TurnedOver}
 use Rattle.token.specs.declared.Round.{Round}

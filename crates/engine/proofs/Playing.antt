@@ -18,7 +18,7 @@ use Rattle.protocol.proofs.Laws.{start-inv}
 use Rattle.protocol.proofs.Sound.{Sound}
 use Rattle.format.specs.Fates.{codeGoing}
 use Rattle.queue.specs.List.{Below}
-use Rattle.rules.proofs.Moving.{below-keep}
+use Rattle.rules.proofs.Found.{below-keep}
 use Rattle.engine.specs.declared.state.Schedule.{Schedule}
 use Rattle.engine.specs.Kept.{Kept}
 use Rattle.engine.specs.Refines.{Refines}

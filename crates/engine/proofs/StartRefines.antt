@@ -19,7 +19,7 @@ use Rattle.protocol.proofs.Lists.{getD-copies, mapped}
 use Rattle.protocol.proofs.Laws.{start-worker}
 use Rattle.plan.specs.Sleeping.{firstCode, FirstFates}
 use Rattle.queue.specs.List.{Holds}
-use Rattle.rules.proofs.Moving.{keep-same}
+use Rattle.rules.proofs.Found.{keep-same}
 use Rattle.pages.specs.Copies.{Lent, copiesIn, slotCount}
 use Rattle.pages.proofs.Slots.{unmarked}
 use Rattle.worker.specs.Private.{viewed}

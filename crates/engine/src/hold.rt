@@ -1,6 +1,8 @@
 // The holder's synchronising step: decided by its rule, then written.
 use crate::state::Schedule;
 use commits::commit;
+use decisions::decision::decide;
+use decisions::lists::Lists;
 use format::limits::BARRIER_COUNT;
 use format::limits::WORKERS_LIMIT;
 use journal::log::packed;
@@ -8,8 +10,6 @@ use journal::report::Counts;
 use pages::SLOTS;
 use pages::discard;
 use plan::decode::Record;
-use rules::decision::decide;
-use rules::lists::Lists;
 use rules::ruling::Uncommitted;
 use token::turn_over;
 use worker::Worker;

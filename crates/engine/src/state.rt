@@ -1,8 +1,8 @@
 // What a run keeps beside an entry for each worker and the lent bytes.
+use decisions::lists::Lists;
 use format::limits::WORKERS_LIMIT;
 use journal::report::Counts;
 use plan::decode::Record;
-use rules::lists::Lists;
 
 // The lists, how many of the round's list are still away from the fence, what is counted, and the sum of shared memory's words.
 pub struct Schedule {

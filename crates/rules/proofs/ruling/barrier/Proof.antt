@@ -11,7 +11,7 @@ use Rattle.queue.specs.List.{listOf}
 use Rattle.queue.proofs.Digits.{length-list}
 use Rattle.rules.specs.Codes.{fateCode}
 use Rattle.rules.proofs.Codes.{fate-code}
-use Rattle.rules.proofs.Moving.{met-few, met-all, met-below, met-short}
+use Rattle.rules.proofs.Found.{met-few, met-all, met-below, met-short}
 use Rattle.rules.proofs.Rulings.{wakes-nobody}
 use Rattle.rules.proofs.ruling.barrier.Statement.{statement}
 use Rattle.rules.proofs.ruling.barrier.Tie as tie

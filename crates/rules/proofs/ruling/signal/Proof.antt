@@ -11,7 +11,7 @@ use Rattle.queue.proofs.Picked.{length-keep}
 use Rattle.queue.proofs.Laws.{some-in, below-first}
 use Rattle.rules.specs.Codes.{conditionCode}
 use Rattle.rules.specs.Rules.{found}
-use Rattle.rules.proofs.Moving.{and-more, below-keep}
+use Rattle.rules.proofs.Found.{and-more, below-keep}
 use Rattle.rules.proofs.Rulings.{wakes-nobody, wakes-none, wakes-first}
 use Rattle.rules.proofs.ruling.signal.Statement.{statement}
 use Rattle.rules.proofs.ruling.signal.Tie as tie
