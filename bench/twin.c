@@ -307,8 +307,9 @@ struct worker {
     const uint8_t *behind;  /* behind the last step */
     uint8_t *copies;        /* for each page its working copy and its twin */
     uint16_t registers[4];
+    uint16_t held;          /* bit l: it holds lock l */
+    uint8_t count;          /* of the locks that it holds */
     uint8_t copied;         /* bit p: page p is copied */
-    uint8_t count;
     uint8_t fate;
     uint8_t name;
 };
@@ -527,12 +528,14 @@ IN_PLACE void lock(struct engine *e, struct worker *w, unsigned number)
 {
     if (w->count == 0)
         commit(e, w);
+    w->held |= (uint16_t)(1u << number);
     w->count += 1;
     write_log(e, w, OP_LOCK, number, w->count);
 }
 
 IN_PLACE void unlock(struct engine *e, struct worker *w, unsigned number)
 {
+    w->held &= (uint16_t)~(1u << number);
     w->count -= 1;
     write_log(e, w, OP_UNLOCK, number, w->count);
     if (w->count == 0) {
@@ -617,11 +620,15 @@ IN_PLACE void exit_plan(struct engine *e, struct worker *w)
     leave(e, w, EXITED);
 }
 
-/* Unlock and wait need a count, barrier and exit need none. */
-static int fails(const struct worker *w, unsigned op)
+/* Only a lock that is not held can be locked, and only one that is held unlocked,
+ * whatever others hold. Wait needs a lock, barrier and exit need none. */
+static int fails(const struct worker *w, unsigned op, unsigned number)
 {
     switch (op) {
+    case OP_LOCK:
+        return w->held >> number & 1;
     case OP_UNLOCK:
+        return !(w->held >> number & 1);
     case OP_WAIT:
         return w->count == 0;
     case OP_BARRIER:
@@ -634,7 +641,7 @@ static int fails(const struct worker *w, unsigned op)
 IN_PLACE void token_step(struct engine *e, struct worker *w, unsigned op)
 {
     unsigned number = w->step == w->behind ? 0 : number_of(w->step);
-    if (fails(w, op)) {
+    if (fails(w, op, number)) {
         fail(e, w, op, number);
         return;
     }
