@@ -7,7 +7,7 @@
 #include "twin.h"
 
 enum { RECORD = TAMPERMAUVE_RECORD_LENGTH, WORKERS = TAMPERMAUVE_WORKERS_LIMIT, STEPS = TAMPERMAUVE_STEPS_LIMIT };
-enum { PLANS = TAMPERMAUVE_PLANS_LIMIT };
+enum { PLANS = TAMPERMAUVE_PLANS_LIMIT, LOCKS = TAMPERMAUVE_LOCK_LIMIT + 1 };
 
 /* The ops, by short names. */
 enum {
@@ -287,7 +287,23 @@ static void section_sets(void)
     moving_turns(c);
     c = set_of_one("lock and unlock alone", WORKERS, 0);
     for (unsigned i = 0; i < WORKERS * STEPS; i++)
-        put(c, i / STEPS, i % 2 ? UNLOCK : LOCK, 0, i % 16);
+        put(c, i / STEPS, i % 2 ? UNLOCK : LOCK, 0, i / 2 % LOCKS);
+    moving_turns(c);
+}
+
+/* Three locks, two steps, and the locks in an order that is not the one in which
+ * they were taken, nor its reverse. Each part has other locks. */
+static void nested_set(void)
+{
+    static const uint8_t part[8][3] = {{LOCK, 0, 3}, {LOCK, 0, 12}, {LOCK, 0, 7},
+                                       {SET_TO, 1, 1}, {ADD, 0, 1}, {UNLOCK, 0, 12},
+                                       {UNLOCK, 0, 3}, {UNLOCK, 0, 7}};
+    struct set_case *c = set_of_one("nested locks by name", WORKERS, 0);
+    for (unsigned i = 0; i < WORKERS * STEPS; i++) {
+        const uint8_t *step = part[i % 8];
+        unsigned number = step[0] < LOCK ? step[2] : (step[2] + i / 8) % LOCKS;
+        put(c, i / STEPS, step[0], step[1], number);
+    }
     moving_turns(c);
 }
 
@@ -362,8 +378,19 @@ static void starts_and_signals_set(void)
     moving_turns(c);
 }
 
+/* The lock of a lock or unlock, by how many are held where no step is skipped: the
+ * lowest that is free, or the highest that is not. */
+static unsigned next_lock(unsigned op, unsigned *held)
+{
+    if (op == LOCK)
+        return (*held)++ % LOCKS;
+    *held -= *held != 0;
+    return *held % LOCKS;
+}
+
 /* Any step; skips stay short and land within the worker's steps. */
-static void random_step(struct set_case *c, unsigned worker, unsigned left)
+static void random_step(struct set_case *c, unsigned worker, unsigned left,
+                        unsigned *held)
 {
     static const uint8_t ops[24] = {SET_TO, SET_TO, LOAD, LOAD, LOAD, STORE,
                                     STORE, STORE, STORE, ADD, ADD, SUBTRACT,
@@ -379,6 +406,8 @@ static void random_step(struct set_case *c, unsigned worker, unsigned left)
         number = below(4);
     else if (op == SKIP_ZERO || op == SKIP_NONZERO)
         number = 1 + below(4);
+    else if (op == LOCK || op == UNLOCK)
+        number = next_lock(op, held);
     if ((op == SKIP_ZERO || op == SKIP_NONZERO) && number > left)
         op = SET_TO;
     put(c, worker, op, reg, number);
@@ -388,10 +417,12 @@ static void random_set(void)
 {
     struct set *s = new_set("random plans, random lists");
     while (s->count < SET_CASES) {
-        unsigned workers = 1 + below(8), steps = 1 + below(40);
+        unsigned workers = 1 + below(8), steps = 1 + below(40), held = 0;
         struct set_case *c = new_case(s, workers, 1 + below(workers));
-        for (unsigned i = 0; i < workers * steps; i++)
-            random_step(c, i / steps, steps - 1 - i % steps);
+        for (unsigned i = 0; i < workers * steps; i++) {
+            held = i % steps == 0 ? 0 : held;
+            random_step(c, i / steps, steps - 1 - i % steps, &held);
+        }
         random_turns(c, 2 * workers * (workers * steps + workers));
     }
 }
@@ -464,23 +495,27 @@ static void join(struct set *s)
 }
 
 /* Two to six workers, each with a few parts: some amounts of its own are added
- * up, the common one under a lock, and all meet before the next part. */
+ * up, the common one under a lock, and all meet before the next part. One number
+ * is drawn in vain, so that the others are those of measurements before locks had
+ * names. */
 static void typical_plan(struct set *s)
 {
     unsigned workers = 2 + below(5), parts = 1 + below(4);
     struct set_case *c = new_case(s, workers, workers);
     for (unsigned i = 0; i < workers * parts; i++) {
-        unsigned worker = i / parts, own = 2 * below(1023);
+        unsigned worker = i / parts, own = 2 * below(1023), lock;
         put(c, worker, LOAD, 0, own);
         put(c, worker, SET_TO, 1, below(500));
+        lock = below(4);
+        below(4);
         put(c, worker, ADD, 0, 1);
         put(c, worker, SKIP_ZERO, 0, 1);
         put(c, worker, STORE, 0, own);
-        put(c, worker, LOCK, 0, below(4));
+        put(c, worker, LOCK, 0, lock);
         put(c, worker, LOAD, 2, 0);
         put(c, worker, ADD, 2, 0);
         put(c, worker, STORE, 2, 0);
-        put(c, worker, UNLOCK, 0, below(4));
+        put(c, worker, UNLOCK, 0, lock);
         put(c, worker, BARRIER, 0, i % parts);
     }
 }
@@ -524,6 +559,7 @@ unsigned make_sets(struct set *sets, int only)
     commit_set();
     sum_set();
     section_sets();
+    nested_set();
     meeting_sets();
     broadcasts_set();
     starts_set();
