@@ -620,7 +620,7 @@ IN_PLACE void exit_plan(struct engine *e, struct worker *w)
     leave(e, w, EXITED);
 }
 
-/* Only a lock that is not held can be locked, and only one that is held unlocked,
+/* A worker locks only what it does not hold and unlocks only what it holds,
  * whatever others hold. Wait needs a lock, barrier and exit need none. */
 static int fails(const struct worker *w, unsigned op, unsigned number)
 {
