@@ -1,6 +1,7 @@
-/* tampermauve_run on cases 1 to 10 of document 01, on plans with sleepers and starts and on plans with broadcasts, every byte of
- * every buffer compared; on the sum that each commit moves; and on the refusals of a run. What is expected is worked out by hand from
- * document 01, "Rounds", "Log and report" and "Plans to check against", and from requests One to Three of document 02. */
+/* tampermauve_run on cases 1 to 10 of document 01, on plans with sleepers and starts, on plans with broadcasts and on plans with locks
+ * by name, every byte of every buffer compared; on the sum that each commit moves; and on the refusals of a run. What is expected is
+ * worked out by hand from document 01, "Rounds", "Log and report" and "Plans to check against", and from requests One to Three and
+ * Five of document 02. */
 #include <stdio.h>
 #include <stdlib.h>
 #include <string.h>
@@ -502,7 +503,7 @@ static void registers_case(struct plan_file *f) {
     ends(&apart, f, 2, 5, 0);
 }
 
-/* A start with count 1 commits as well, and the count stays. */
+/* A start with a lock held commits as well, and the lock stays. */
 static void locked_cases(struct plan_file *f) {
     /* arrival, lock, set, store, start, unlock. Worker 1 joined the next list before worker 0 gave up the token: load, store,
      * arrival, and the arrival of 0; both ends. */
@@ -947,10 +948,10 @@ static void sixteen_case(struct plan_file *f) {
     ends(&twice, f, 8, 35, 0);
 }
 
-/* A woken worker has its count and its registers still: worker 0 waits with two locks, worker 1 with 5 in register 2. Arrival;
+/* A woken worker has its locks and its registers still: worker 0 waits with two locks, worker 1 with 5 in register 2. Arrival;
  * set, arrival; arrival; two locks, wait; lock, wait; broadcast; two unlocks; store, unlock; three arrivals, three ends. */
 static void kept_case(struct plan_file *f) {
-    static const struct expected kept = {"count and registers over a broadcast", {5}, 1, 20, 2, 12,
+    static const struct expected kept = {"locks and registers over a broadcast", {5}, 1, 20, 2, 12,
         {{1, 0, 32, 3, 1}, {1, 0, 32, 4, 2}, {1, 0, 34, 0, 255}, {1, 1, 32, 0, 1}, {1, 1, 34, 0, 255}, {1, 2, 36, 0, 2},
          {1, 0, 33, 4, 1}, {1, 0, 33, 3, 0}, {1, 1, 33, 0, 0}, {2, 2, 38, 0, 255}, {2, 0, 38, 0, 255}, {2, 1, 38, 0, 255}},
         {1, 1, 1}};
@@ -1026,6 +1027,581 @@ static void broadcast_cases(struct plan_file *f) {
     kept_case(f);
     start_and_broadcast_case(f);
     woken_turns_cases(f);
+}
+
+static void take(struct plan_file *f, unsigned worker, unsigned lock) {
+    plan_sync(f, worker, TAMPERMAUVE_OP_LOCK, lock);
+}
+
+static void give_back(struct plan_file *f, unsigned worker, unsigned lock) {
+    plan_sync(f, worker, TAMPERMAUVE_OP_UNLOCK, lock);
+}
+
+/* Worker 0 takes locks 3 and 12, stores 5 at 0 and gives both back; worker 1 has no steps. */
+static void two_locks(struct plan_file *f, unsigned first, unsigned second) {
+    plan_begin(f, 2);
+    take(f, 0, 3);
+    take(f, 0, 12);
+    store(f, 0, 5);
+    give_back(f, 0, first);
+    give_back(f, 0, second);
+}
+
+/* Either may be given back first. Two arrivals; two locks, set, store, two unlocks; the end of 1; arrival, end. */
+static void two_locks_cases(struct plan_file *f) {
+    static const struct expected as_taken = {"two locks given back as they were taken", {5}, 1, 11, 2, 6,
+        {{1, 0, 32, 3, 1}, {1, 0, 32, 12, 2}, {1, 0, 33, 3, 1}, {1, 0, 33, 12, 0}, {1, 1, 38, 0, 255}, {2, 0, 38, 0, 255}}, {1, 1}};
+    static const struct expected reversed = {"two locks given back the other way round", {5}, 1, 11, 2, 6,
+        {{1, 0, 32, 3, 1}, {1, 0, 32, 12, 2}, {1, 0, 33, 12, 1}, {1, 0, 33, 3, 0}, {1, 1, 38, 0, 255}, {2, 0, 38, 0, 255}}, {1, 1}};
+    two_locks(f, 3, 12);
+    ends(&as_taken, f, 2, 6, 0);
+    two_locks(f, 12, 3);
+    ends(&reversed, f, 2, 6, 0);
+}
+
+/* The same plans under way. The first unlock commits nothing and keeps the token, so that the turn of worker 1 passes behind it; the
+ * second commits and gives the token up. */
+static void inner_unlock_cases(struct plan_file *f) {
+    static const struct expected inner = {"right behind an inner unlock", {0}, 0, 7, 0, 3,
+        {{1, 0, 32, 3, 1}, {1, 0, 32, 12, 2}, {1, 0, 33, 3, 1}}, {0, 0}};
+    static const struct expected outer = {"right behind the outer unlock", {5}, 0, 8, 0, 4,
+        {{1, 0, 32, 3, 1}, {1, 0, 32, 12, 2}, {1, 0, 33, 3, 1}, {1, 0, 33, 12, 0}}, {0, 0}};
+    static const struct expected inner_reversed = {"right behind an inner unlock of the second", {0}, 0, 7, 0, 3,
+        {{1, 0, 32, 3, 1}, {1, 0, 32, 12, 2}, {1, 0, 33, 12, 1}}, {0, 0}};
+    static const struct expected outer_reversed = {"right behind the outer unlock of the first", {5}, 0, 8, 0, 4,
+        {{1, 0, 32, 3, 1}, {1, 0, 32, 12, 2}, {1, 0, 33, 12, 1}, {1, 0, 33, 3, 0}}, {0, 0}};
+    static const uint8_t turns[9] = {0, 1, 0, 0, 0, 0, 0, 1, 0};
+    two_locks(f, 3, 12);
+    play(&inner, f, 2, turns, 8, 0);
+    play(&outer, f, 2, turns, 9, 0);
+    two_locks(f, 12, 3);
+    play(&inner_reversed, f, 2, turns, 8, 0);
+    play(&outer_reversed, f, 2, turns, 9, 0);
+}
+
+/* Worker 0 unlocks another lock than the one that it holds: it fails, the 5 is lost, and of the steps behind none is run. Two
+ * arrivals; lock, set, store, failure; the end of 1. */
+static void wrong_unlock_case(struct plan_file *f) {
+    static const struct expected wrong = {"the wrong one unlocked", {0}, 1, 7, 1, 3,
+        {{1, 0, 32, 3, 1}, {1, 0, 33, 4, 254}, {1, 1, 38, 0, 255}}, {2, 1}};
+    plan_begin(f, 2);
+    take(f, 0, 3);
+    store(f, 0, 5);
+    give_back(f, 0, 4);
+    store_at(f, 0, 9, 2);
+    give_back(f, 0, 3);
+    ends(&wrong, f, 2, 7, 0);
+}
+
+/* Unlocks of a lock that is not held: neither of two; one that was given back, with another held and with none. */
+static void unlock_failures(struct plan_file *f) {
+    /* arrival, two locks, set, store, failure */
+    static const struct expected neither = {"neither of two unlocked", {0}, 1, 6, 1, 3,
+        {{1, 0, 32, 3, 1}, {1, 0, 32, 4, 2}, {1, 0, 33, 5, 254}}, {2}};
+    /* arrival, two locks, unlock, set, store, failure */
+    static const struct expected twice = {"one of two given back twice", {0}, 1, 7, 1, 4,
+        {{1, 0, 32, 3, 1}, {1, 0, 32, 4, 2}, {1, 0, 33, 3, 1}, {1, 0, 33, 3, 254}}, {2}};
+    /* arrival, lock, unlock; set, store, arrival, failure */
+    static const struct expected none = {"a lock given back twice", {0}, 1, 7, 2, 3,
+        {{1, 0, 32, 3, 1}, {1, 0, 33, 3, 0}, {2, 0, 33, 3, 254}}, {2}};
+    plan_begin(f, 1);
+    take(f, 0, 3);
+    take(f, 0, 4);
+    store(f, 0, 5);
+    give_back(f, 0, 5);
+    ends(&neither, f, 1, 5, 0);
+    plan_begin(f, 1);
+    take(f, 0, 3);
+    take(f, 0, 4);
+    give_back(f, 0, 3);
+    store(f, 0, 5);
+    give_back(f, 0, 3);
+    ends(&twice, f, 1, 6, 0);
+    plan_begin(f, 1);
+    take(f, 0, 3);
+    give_back(f, 0, 3);
+    store(f, 0, 5);
+    give_back(f, 0, 3);
+    ends(&none, f, 1, 5, 0);
+}
+
+/* A lock that is held is locked again, at once or behind another. The first lock commits the 3, and the failure loses the 4. */
+static void lock_failures(struct plan_file *f) {
+    /* set, store, arrival, and the arrival of 1; lock, set, store, failure; the end of 1 */
+    static const struct expected twice = {"one lock taken twice", {3}, 1, 9, 1, 3,
+        {{1, 0, 32, 5, 1}, {1, 0, 32, 5, 254}, {1, 1, 38, 0, 255}}, {2, 1}};
+    /* arrival, lock, set, store, lock, failure */
+    static const struct expected behind = {"one lock taken twice, behind another", {0}, 1, 6, 1, 3,
+        {{1, 0, 32, 5, 1}, {1, 0, 32, 6, 2}, {1, 0, 32, 5, 254}}, {2}};
+    plan_begin(f, 2);
+    store_at(f, 0, 3, 0);
+    take(f, 0, 5);
+    store_at(f, 0, 4, 2);
+    take(f, 0, 5);
+    give_back(f, 0, 5);
+    give_back(f, 0, 5);
+    ends(&twice, f, 2, 8, 0);
+    plan_begin(f, 1);
+    take(f, 0, 5);
+    store(f, 0, 4);
+    take(f, 0, 6);
+    take(f, 0, 5);
+    give_back(f, 0, 6);
+    ends(&behind, f, 1, 6, 0);
+}
+
+/* What was given back can be taken again, in the next round and in the same one. */
+static void taken_again_cases(struct plan_file *f) {
+    /* arrival, lock, unlock; the same; arrival, end */
+    static const struct expected later = {"a lock taken again in the next round", {0}, 1, 8, 3, 5,
+        {{1, 0, 32, 5, 1}, {1, 0, 33, 5, 0}, {2, 0, 32, 5, 1}, {2, 0, 33, 5, 0}, {3, 0, 38, 0, 255}}, {1}};
+    /* arrival, six steps; arrival, end */
+    static const struct expected at_once = {"a lock taken again with another held", {0}, 1, 9, 2, 7,
+        {{1, 0, 32, 5, 1}, {1, 0, 32, 6, 2}, {1, 0, 33, 5, 1}, {1, 0, 32, 5, 2}, {1, 0, 33, 6, 1}, {1, 0, 33, 5, 0},
+         {2, 0, 38, 0, 255}}, {1}};
+    plan_begin(f, 1);
+    take(f, 0, 5);
+    give_back(f, 0, 5);
+    take(f, 0, 5);
+    give_back(f, 0, 5);
+    ends(&later, f, 1, 4, 0);
+    plan_begin(f, 1);
+    take(f, 0, 5);
+    take(f, 0, 6);
+    give_back(f, 0, 5);
+    take(f, 0, 5);
+    give_back(f, 0, 6);
+    give_back(f, 0, 5);
+    ends(&at_once, f, 1, 6, 0);
+}
+
+/* Worker 0 waits with locks 3 and 12 and gives both back once it is woken, the first one first. Meanwhile worker 1 has lock 3 as
+ * well. Two arrivals; two locks, wait; lock, signal, unlock; two unlocks; two arrivals, two ends. */
+static void wait_with_two_case(struct plan_file *f) {
+    static const struct expected both = {"a wait with two locks, one of them taken meanwhile", {0}, 1, 14, 2, 10,
+        {{1, 0, 32, 3, 1}, {1, 0, 32, 12, 2}, {1, 0, 34, 0, 255}, {1, 1, 32, 3, 1}, {1, 1, 35, 0, 0}, {1, 1, 33, 3, 0},
+         {1, 0, 33, 3, 1}, {1, 0, 33, 12, 0}, {2, 1, 38, 0, 255}, {2, 0, 38, 0, 255}}, {1, 1}};
+    plan_begin(f, 2);
+    take(f, 0, 3);
+    take(f, 0, 12);
+    plan_sync(f, 0, TAMPERMAUVE_OP_WAIT, 0);
+    give_back(f, 0, 3);
+    give_back(f, 0, 12);
+    take(f, 1, 3);
+    plan_sync(f, 1, TAMPERMAUVE_OP_SIGNAL, 0);
+    give_back(f, 1, 3);
+    ends(&both, f, 2, 8, 0);
+}
+
+/* Worker 0 waits with locks 3 and 12; worker 1 wakes it with lock 15 held. */
+static void wake_two(struct plan_file *f, unsigned op) {
+    plan_begin(f, 2);
+    take(f, 0, 3);
+    take(f, 0, 12);
+    plan_sync(f, 0, TAMPERMAUVE_OP_WAIT, 0);
+    take(f, 0, 15);
+    give_back(f, 0, 12);
+    give_back(f, 0, 15);
+    give_back(f, 0, 3);
+    take(f, 1, 15);
+    plan_sync(f, 1, op, 0);
+    give_back(f, 1, 15);
+}
+
+/* The woken worker takes a third lock, which the other one had when it woke it. Two arrivals; two locks, wait; lock, signal or
+ * broadcast, unlock; lock, three unlocks; two arrivals, two ends. */
+static void third_lock_cases(struct plan_file *f) {
+    static const struct expected signalled = {"a third lock behind a wait, by a signal", {0}, 1, 16, 2, 12,
+        {{1, 0, 32, 3, 1}, {1, 0, 32, 12, 2}, {1, 0, 34, 0, 255}, {1, 1, 32, 15, 1}, {1, 1, 35, 0, 0}, {1, 1, 33, 15, 0},
+         {1, 0, 32, 15, 3}, {1, 0, 33, 12, 2}, {1, 0, 33, 15, 1}, {1, 0, 33, 3, 0}, {2, 1, 38, 0, 255}, {2, 0, 38, 0, 255}}, {1, 1}};
+    static const struct expected broadcast = {"a third lock behind a wait, by a broadcast", {0}, 1, 16, 2, 12,
+        {{1, 0, 32, 3, 1}, {1, 0, 32, 12, 2}, {1, 0, 34, 0, 255}, {1, 1, 32, 15, 1}, {1, 1, 36, 0, 1}, {1, 1, 33, 15, 0},
+         {1, 0, 32, 15, 3}, {1, 0, 33, 12, 2}, {1, 0, 33, 15, 1}, {1, 0, 33, 3, 0}, {2, 1, 38, 0, 255}, {2, 0, 38, 0, 255}}, {1, 1}};
+    wake_two(f, TAMPERMAUVE_OP_SIGNAL);
+    ends(&signalled, f, 2, 10, 0);
+    wake_two(f, TAMPERMAUVE_OP_BROADCAST);
+    ends(&broadcast, f, 2, 10, 0);
+}
+
+/* Behind its wait, worker 0 locks the second of the two once more: it has both still, and fails. Worker 1 has none, and gives up the
+ * token by its signal. Two arrivals; two locks, wait; signal; failure; arrival, end. */
+static void lock_behind_wait_case(struct plan_file *f) {
+    static const struct expected again = {"a lock taken again behind a wait", {0}, 1, 9, 2, 6,
+        {{1, 0, 32, 3, 1}, {1, 0, 32, 12, 2}, {1, 0, 34, 0, 255}, {1, 1, 35, 0, 0}, {1, 0, 32, 12, 254}, {2, 1, 38, 0, 255}}, {2, 1}};
+    plan_begin(f, 2);
+    take(f, 0, 3);
+    take(f, 0, 12);
+    plan_sync(f, 0, TAMPERMAUVE_OP_WAIT, 0);
+    take(f, 0, 12);
+    plan_sync(f, 1, TAMPERMAUVE_OP_SIGNAL, 0);
+    ends(&again, f, 2, 5, 0);
+}
+
+/* What another one holds is not held by this one: worker 0 waits with lock 3, and worker 1 fails by unlocking it, with a lock of its
+ * own and with none. Two arrivals; lock, wait; lock, failure, or the failure alone. */
+static void others_lock_cases(struct plan_file *f) {
+    static const struct expected with = {"another one's lock unlocked, with one of its own", {0}, 2, 6, 1, 4,
+        {{1, 0, 32, 3, 1}, {1, 0, 34, 0, 255}, {1, 1, 32, 4, 1}, {1, 1, 33, 3, 254}}, {3, 2}};
+    static const struct expected without = {"another one's lock unlocked, with none", {0}, 2, 5, 1, 3,
+        {{1, 0, 32, 3, 1}, {1, 0, 34, 0, 255}, {1, 1, 33, 3, 254}}, {3, 2}};
+    int locked;
+    for (locked = 0; locked < 2; locked++) {
+        plan_begin(f, 2);
+        take(f, 0, 3);
+        plan_sync(f, 0, TAMPERMAUVE_OP_WAIT, 0);
+        if (locked) {
+            take(f, 1, 4);
+        }
+        give_back(f, 1, 3);
+        ends(locked ? &with : &without, f, 2, locked ? 4 : 3, 0);
+    }
+}
+
+/* Worker 0 fails with lock 3 held, and worker 1 takes it. Two arrivals; lock, failure; lock, unlock; arrival, end. */
+static void failed_holder_case(struct plan_file *f) {
+    static const struct expected taken = {"the lock of one who failed", {0}, 1, 8, 2, 5,
+        {{1, 0, 32, 3, 1}, {1, 0, 38, 0, 254}, {1, 1, 32, 3, 1}, {1, 1, 33, 3, 0}, {2, 1, 38, 0, 255}}, {2, 1}};
+    plan_begin(f, 2);
+    take(f, 0, 3);
+    take(f, 1, 3);
+    give_back(f, 1, 3);
+    ends(&taken, f, 2, 3, 0);
+}
+
+/* A start leaves the caller's locks, and a started worker has none: its unlock of one that the caller had fails. Arrival, two locks,
+ * start, two unlocks: the next list is 1 0; two arrivals, failure, end. */
+static void start_with_two_case(struct plan_file *f) {
+    static const struct expected apart = {"a start with two locks", {0}, 1, 10, 2, 7,
+        {{1, 0, 32, 3, 1}, {1, 0, 32, 4, 2}, {1, 0, 39, 1, 1}, {1, 0, 33, 3, 1}, {1, 0, 33, 4, 0}, {2, 1, 33, 3, 254},
+         {2, 0, 38, 0, 255}}, {1, 2}};
+    plan_begin(f, 2);
+    plan_sleep(f, 1);
+    take(f, 0, 3);
+    take(f, 0, 4);
+    plan_sync(f, 0, TAMPERMAUVE_OP_START, 1);
+    give_back(f, 0, 3);
+    give_back(f, 0, 4);
+    give_back(f, 1, 3);
+    ends(&apart, f, 2, 6, 0);
+}
+
+/* Worker 0 takes locks 3 and 4, stores 5 at 0, gives back 3, and makes a step with 4 held; op 0 is the end. Barrier 0 is of one. */
+static void one_of_two(struct plan_file *f, unsigned op) {
+    plan_begin(f, 1);
+    plan_size(f, 0, 1);
+    take(f, 0, 3);
+    take(f, 0, 4);
+    store(f, 0, 5);
+    give_back(f, 0, 3);
+    if (op != 0) {
+        plan_sync(f, 0, op, 0);
+    }
+}
+
+/* With one of two locks still held, barrier, exit and the end fail and the 5 is lost; a wait commits it. Arrival, two locks, set,
+ * store, unlock, the step. */
+static void one_left_cases(struct plan_file *f) {
+    static const struct expected barrier = {"a barrier with one of two locks held", {0}, 1, 7, 1, 4,
+        {{1, 0, 32, 3, 1}, {1, 0, 32, 4, 2}, {1, 0, 33, 3, 1}, {1, 0, 37, 0, 254}}, {2}};
+    static const struct expected exits = {"an exit with one of two locks held", {0}, 1, 7, 1, 4,
+        {{1, 0, 32, 3, 1}, {1, 0, 32, 4, 2}, {1, 0, 33, 3, 1}, {1, 0, 38, 0, 254}}, {2}};
+    static const struct expected waits = {"a wait with one of two locks held", {5}, 2, 7, 1, 4,
+        {{1, 0, 32, 3, 1}, {1, 0, 32, 4, 2}, {1, 0, 33, 3, 1}, {1, 0, 34, 0, 255}}, {3}};
+    one_of_two(f, TAMPERMAUVE_OP_BARRIER);
+    ends(&barrier, f, 1, 7, 0);
+    one_of_two(f, TAMPERMAUVE_OP_EXIT);
+    ends(&exits, f, 1, 7, 0);
+    one_of_two(f, 0);
+    ends(&exits, f, 1, 6, 0);
+    one_of_two(f, TAMPERMAUVE_OP_WAIT);
+    ends(&waits, f, 1, 7, 0);
+}
+
+/* A signal and a broadcast with one of two locks still held commit and keep the token, so that worker 1 ends behind the last unlock.
+ * Two arrivals; two locks, set, store, unlock, signal or broadcast, unlock; the end of 1; arrival, end. */
+static void wake_with_one_left_cases(struct plan_file *f) {
+    static const struct expected signal = {"a signal with one of two locks held", {5}, 1, 12, 2, 7,
+        {{1, 0, 32, 3, 1}, {1, 0, 32, 4, 2}, {1, 0, 33, 3, 1}, {1, 0, 35, 0, 255}, {1, 0, 33, 4, 0}, {1, 1, 38, 0, 255},
+         {2, 0, 38, 0, 255}}, {1, 1}};
+    static const struct expected broadcast = {"a broadcast with one of two locks held", {5}, 1, 12, 2, 7,
+        {{1, 0, 32, 3, 1}, {1, 0, 32, 4, 2}, {1, 0, 33, 3, 1}, {1, 0, 36, 0, 0}, {1, 0, 33, 4, 0}, {1, 1, 38, 0, 255},
+         {2, 0, 38, 0, 255}}, {1, 1}};
+    unsigned op;
+    for (op = TAMPERMAUVE_OP_SIGNAL; op <= TAMPERMAUVE_OP_BROADCAST; op++) {
+        plan_begin(f, 2);
+        take(f, 0, 3);
+        take(f, 0, 4);
+        store(f, 0, 5);
+        give_back(f, 0, 3);
+        plan_sync(f, 0, op, 0);
+        give_back(f, 0, 4);
+        ends(op == TAMPERMAUVE_OP_SIGNAL ? &signal : &broadcast, f, 2, 7, 0);
+    }
+}
+
+/* Orders of the 16 locks. */
+static const uint8_t up[16] = {0, 1, 2, 3, 4, 5, 6, 7, 8, 9, 10, 11, 12, 13, 14, 15};
+static const uint8_t down[16] = {15, 14, 13, 12, 11, 10, 9, 8, 7, 6, 5, 4, 3, 2, 1, 0};
+static const uint8_t mixed[16] = {9, 0, 14, 5, 3, 12, 7, 15, 1, 10, 6, 2, 13, 8, 4, 11};
+
+/* A step of worker 0 for each of the 16 locks. */
+static void each_lock(struct plan_file *f, unsigned op, const uint8_t order[16]) {
+    unsigned k;
+    for (k = 0; k < 16; k++) {
+        plan_sync(f, 0, op, order[k]);
+    }
+}
+
+/* The log begins with the locks of all 16: outcomes 1 to 16. */
+static void log_all_taken(struct expected *e, const uint8_t taken[16]) {
+    unsigned k;
+    for (k = 0; k < 16; k++) {
+        struct entry lock = {1, 0, 32, taken[k], k + 1u};
+        e->log[k] = lock;
+    }
+}
+
+/* All are taken in one order and given back in another: outcomes 15 to 0. Arrival, 16 locks, set, store, 16 unlocks; arrival, end. */
+static void all_locks(const char *name, struct plan_file *f, const uint8_t taken[16], const uint8_t given[16]) {
+    struct expected all = {name, {5}, 1, 37, 2, 33, {{0, 0, 0, 0, 0}}, {1}};
+    static const struct entry end = {2, 0, 38, 0, 255};
+    unsigned k;
+    plan_begin(f, 1);
+    each_lock(f, TAMPERMAUVE_OP_LOCK, taken);
+    store(f, 0, 5);
+    each_lock(f, TAMPERMAUVE_OP_UNLOCK, given);
+    log_all_taken(&all, taken);
+    for (k = 0; k < 16; k++) {
+        struct entry unlock = {1, 0, 33, given[k], 15u - k};
+        all.log[16u + k] = unlock;
+    }
+    all.log[32] = end;
+    ends(&all, f, 1, 34, 0);
+}
+
+/* With all 16 held, each of them fails if it is locked again. */
+static void seventeenth_lock(struct plan_file *f, const uint8_t taken[16]) {
+    struct expected again = {"a seventeenth lock", {0}, 1, 18, 1, 17, {{0, 0, 0, 0, 0}}, {2}};
+    unsigned lock;
+    log_all_taken(&again, taken);
+    for (lock = 0; lock < 16; lock++) {
+        struct entry failure = {1, 0, 32, lock, 254};
+        plan_begin(f, 1);
+        each_lock(f, TAMPERMAUVE_OP_LOCK, taken);
+        take(f, 0, lock);
+        again.log[16] = failure;
+        play_order(&again, f, 1, 17, UP, 0);
+    }
+}
+
+/* Worker 0 takes so many locks, stores 5 at 0 and makes a step; op 0 is the end. Barrier 0 is of one. */
+static void some_locks(struct plan_file *f, unsigned count, unsigned op) {
+    unsigned k;
+    plan_begin(f, 1);
+    plan_size(f, 0, 1);
+    for (k = 0; k < count; k++) {
+        take(f, 0, up[k]);
+    }
+    store(f, 0, 5);
+    if (op != 0) {
+        plan_sync(f, 0, op, 0);
+    }
+}
+
+/* With any number of locks held, barrier, exit and the end fail and the 5 is lost. Arrival, the locks, set, store, failure. */
+static void any_number_fails(struct plan_file *f, unsigned count) {
+    static const unsigned ops[3] = {TAMPERMAUVE_OP_BARRIER, TAMPERMAUVE_OP_EXIT, 0};
+    struct expected fails = {"a failure with so many locks", {0}, 1, count + 4u, 1, count + 1u, {{0, 0, 0, 0, 0}}, {2}};
+    unsigned k;
+    log_all_taken(&fails, up);
+    for (k = 0; k < 3; k++) {
+        struct entry failure = {1, 0, ops[k] == 0 ? 38 : ops[k], 0, 254};
+        fails.log[count] = failure;
+        some_locks(f, count, ops[k]);
+        play_order(&fails, f, 1, count + (ops[k] == 0 ? 2u : 3u), UP, 0);
+    }
+}
+
+/* Signal, broadcast and a start of itself commit the 5 and keep the token, and the end behind them fails. Arrival, the locks, set,
+ * store, the step, failure. */
+static void any_number_runs_on(struct plan_file *f, unsigned count) {
+    static const struct entry steps[3] = {{1, 0, 35, 0, 255}, {1, 0, 36, 0, 0}, {1, 0, 39, 0, 253}};
+    static const struct entry failure = {1, 0, 38, 0, 254};
+    struct expected runs_on = {"a step with so many locks", {5}, 1, count + 5u, 1, count + 2u, {{0, 0, 0, 0, 0}}, {2}};
+    unsigned k;
+    log_all_taken(&runs_on, up);
+    for (k = 0; k < 3; k++) {
+        runs_on.log[count] = steps[k];
+        runs_on.log[count + 1u] = failure;
+        some_locks(f, count, steps[k].op);
+        play_order(&runs_on, f, 1, count + 3u, UP, 0);
+    }
+}
+
+/* So does a wait, and leaves: arrival, the locks, set, store, wait. */
+static void any_number_waits(struct plan_file *f, unsigned count) {
+    static const struct entry wait = {1, 0, 34, 0, 255};
+    struct expected waits = {"a wait with so many locks", {5}, 2, count + 4u, 1, count + 1u, {{0, 0, 0, 0, 0}}, {3}};
+    log_all_taken(&waits, up);
+    waits.log[count] = wait;
+    some_locks(f, count, TAMPERMAUVE_OP_WAIT);
+    play_order(&waits, f, 1, count + 3u, UP, 0);
+}
+
+static void number_cases(struct plan_file *f) {
+    unsigned count;
+    for (count = 1; count <= 16; count++) {
+        any_number_fails(f, count);
+        any_number_runs_on(f, count);
+        any_number_waits(f, count);
+    }
+}
+
+/* Worker 0 waits with all 16, and gives them back once it is woken: outcomes 15 to 0. Two arrivals; 16 locks, wait; signal or
+ * broadcast; 16 unlocks; two arrivals, two ends. */
+static void wait_with_all(const char *name, struct plan_file *f, unsigned op, unsigned outcome) {
+    struct expected all = {name, {0}, 1, 40, 2, 36, {{0, 0, 0, 0, 0}}, {1, 1}};
+    struct entry wait = {1, 0, 34, 0, 255}, wake = {1, 1, op, 0, outcome}, first = {2, 1, 38, 0, 255}, second = {2, 0, 38, 0, 255};
+    unsigned k;
+    plan_begin(f, 2);
+    each_lock(f, TAMPERMAUVE_OP_LOCK, up);
+    plan_sync(f, 0, TAMPERMAUVE_OP_WAIT, 0);
+    each_lock(f, TAMPERMAUVE_OP_UNLOCK, mixed);
+    plan_sync(f, 1, op, 0);
+    log_all_taken(&all, up);
+    for (k = 0; k < 16; k++) {
+        struct entry unlock = {1, 0, 33, mixed[k], 15u - k};
+        all.log[18u + k] = unlock;
+    }
+    all.log[16] = wait;
+    all.log[17] = wake;
+    all.log[34] = first;
+    all.log[35] = second;
+    ends(&all, f, 2, 34, 0);
+}
+
+/* A step of worker 0 for each lock but one. */
+static void each_other_lock(struct plan_file *f, unsigned op, unsigned lock) {
+    unsigned k;
+    for (k = 1; k < 16; k++) {
+        plan_sync(f, 0, op, (lock + k) % 16u);
+    }
+}
+
+/* Worker 0 takes a lock, stores 5 at 0, takes the 15 others and gives them back: outcomes 1, 2 to 16, 15 to 1. None of these commits
+ * the 5, and the failed end loses it. Arrival, lock, set, store, 15 locks, 15 unlocks, failure. */
+static void all_but_one(struct plan_file *f, unsigned kept) {
+    static const struct entry failure = {1, 0, 38, 0, 254};
+    struct expected one = {"all locks but one given back", {0}, 1, 35, 1, 32, {{1, 0, 32, 0, 1}}, {2}};
+    unsigned k;
+    plan_begin(f, 1);
+    take(f, 0, kept);
+    store(f, 0, 5);
+    each_other_lock(f, TAMPERMAUVE_OP_LOCK, kept);
+    each_other_lock(f, TAMPERMAUVE_OP_UNLOCK, kept);
+    one.log[0].number = kept;
+    for (k = 1; k < 16; k++) {
+        struct entry lock = {1, 0, 32, (kept + k) % 16u, k + 1u}, unlock = {1, 0, 33, (kept + k) % 16u, 16u - k};
+        one.log[k] = lock;
+        one.log[15u + k] = unlock;
+    }
+    one.log[31] = failure;
+    play_order(&one, f, 1, 33, UP, 0);
+}
+
+/* A lock is taken behind another one, given back, taken again, and held when the other one is given back: the end fails. The inner
+ * locks and unlocks commit nothing. Arrival, lock, set, store, lock, unlock, lock, unlock, failure. */
+static void inner_lock_case(struct plan_file *f, unsigned lock) {
+    struct expected kept = {"each lock behind another", {0}, 1, 9, 1, 6, {{0, 0, 0, 0, 0}}, {2}};
+    unsigned other = (lock + 1u) % 16u;
+    struct entry log[6] = {{1, 0, 32, other, 1}, {1, 0, 32, lock, 2}, {1, 0, 33, lock, 1}, {1, 0, 32, lock, 2}, {1, 0, 33, other, 1},
+                           {1, 0, 38, 0, 254}};
+    memcpy(kept.log, log, sizeof log);
+    plan_begin(f, 1);
+    take(f, 0, other);
+    store(f, 0, 5);
+    take(f, 0, lock);
+    give_back(f, 0, lock);
+    take(f, 0, lock);
+    give_back(f, 0, other);
+    play_order(&kept, f, 1, 7, UP, 0);
+}
+
+static void all_locks_cases(struct plan_file *f) {
+    unsigned lock;
+    all_locks("all locks, in the same order", f, up, up);
+    all_locks("all locks, in reverse", f, up, down);
+    all_locks("all locks, from the last one down", f, down, up);
+    all_locks("all locks, in no order", f, mixed, down);
+    all_locks("all locks, in two orders", f, mixed, up);
+    seventeenth_lock(f, up);
+    seventeenth_lock(f, mixed);
+    wait_with_all("a wait with all locks, and a signal", f, TAMPERMAUVE_OP_SIGNAL, 0);
+    wait_with_all("a wait with all locks, and a broadcast", f, TAMPERMAUVE_OP_BROADCAST, 1);
+    for (lock = 0; lock < 16; lock++) {
+        all_but_one(f, lock);
+        inner_lock_case(f, lock);
+    }
+}
+
+/* One lock is taken and another unlocked, or the same: arrival, lock, failure; or arrival, lock, unlock, arrival, end. */
+static void unlock_another(struct plan_file *f, unsigned taken, unsigned given) {
+    struct expected same_one = {"each lock given back", {0}, 1, 5, 2, 3,
+        {{1, 0, 32, 0, 1}, {1, 0, 33, 0, 0}, {2, 0, 38, 0, 255}}, {1}};
+    struct expected another = {"each other lock unlocked", {0}, 1, 3, 1, 2, {{1, 0, 32, 0, 1}, {1, 0, 33, 0, 254}}, {2}};
+    struct expected *e = taken == given ? &same_one : &another;
+    e->log[0].number = taken;
+    e->log[1].number = given;
+    plan_begin(f, 1);
+    take(f, 0, taken);
+    give_back(f, 0, given);
+    play_order(e, f, 1, 2, UP, 0);
+}
+
+/* One lock is taken and then another, or the same: arrival, two locks, two unlocks, arrival, end; or arrival, lock, failure. */
+static void lock_another(struct plan_file *f, unsigned first, unsigned second) {
+    struct expected same_one = {"each lock taken twice", {0}, 1, 3, 1, 2, {{1, 0, 32, 0, 1}, {1, 0, 32, 0, 254}}, {2}};
+    struct expected another = {"each two locks", {0}, 1, 7, 2, 5,
+        {{1, 0, 32, 0, 1}, {1, 0, 32, 0, 2}, {1, 0, 33, 0, 1}, {1, 0, 33, 0, 0}, {2, 0, 38, 0, 255}}, {1}};
+    struct expected *e = first == second ? &same_one : &another;
+    e->log[0].number = first;
+    e->log[1].number = second;
+    another.log[2].number = first;
+    another.log[3].number = second;
+    plan_begin(f, 1);
+    take(f, 0, first);
+    take(f, 0, second);
+    give_back(f, 0, first);
+    give_back(f, 0, second);
+    play_order(e, f, 1, 4, UP, 0);
+}
+
+static void pair_cases(struct plan_file *f) {
+    unsigned pair;
+    for (pair = 0; pair < 16u * 16u; pair++) {
+        unlock_another(f, pair / 16u, pair % 16u);
+        lock_another(f, pair / 16u, pair % 16u);
+    }
+}
+
+static void lock_cases(struct plan_file *f) {
+    two_locks_cases(f);
+    inner_unlock_cases(f);
+    wrong_unlock_case(f);
+    unlock_failures(f);
+    lock_failures(f);
+    taken_again_cases(f);
+    wait_with_two_case(f);
+    third_lock_cases(f);
+    lock_behind_wait_case(f);
+    others_lock_cases(f);
+    failed_holder_case(f);
+    start_with_two_case(f);
+    one_left_cases(f);
+    wake_with_one_left_cases(f);
+    all_locks_cases(f);
+    number_cases(f);
+    pair_cases(f);
 }
 
 /* The sum by the first turns of a list, from a starting memory: it is the one that was worked out by hand, and that of the memory
@@ -1292,7 +1868,8 @@ static void failing_sums(struct plan_file *f, const uint8_t *start) {
     static const struct sync_case cases[] = {
         {"the sum, and a failed unlock", TAMPERMAUVE_OP_UNLOCK, 0, 0}, {"the sum, and a failed wait", TAMPERMAUVE_OP_WAIT, 0, 0},
         {"the sum, and a failed barrier", TAMPERMAUVE_OP_BARRIER, 0, 1}, {"the sum, and a failed exit", TAMPERMAUVE_OP_EXIT, 0, 1},
-        {"the sum, and a failed end", 0, 0, 1},
+        {"the sum, and a failed end", 0, 0, 1}, {"the sum, and a lock taken twice", TAMPERMAUVE_OP_LOCK, 0, 1},
+        {"the sum, and the wrong one unlocked", TAMPERMAUVE_OP_UNLOCK, 1, 1},
     };
     size_t k;
     for (k = 0; k < sizeof cases / sizeof *cases; k++) {
@@ -1301,16 +1878,20 @@ static void failing_sums(struct plan_file *f, const uint8_t *start) {
     }
 }
 
-/* A lock with a count and an unlock that leaves one commit nothing: arrival, lock, set, store, lock, unlock; the next unlock does. */
+/* A lock behind another and an unlock that leaves one held commit nothing, whichever it is: arrival, lock, set, store, lock, unlock;
+ * the next unlock does. */
 static void inner_lock_sums(struct plan_file *f, const uint8_t *start) {
-    plan_begin(f, 1);
-    plan_sync(f, 0, TAMPERMAUVE_OP_LOCK, 0);
-    store(f, 0, 1258);
-    plan_sync(f, 0, TAMPERMAUVE_OP_LOCK, 1);
-    plan_sync(f, 0, TAMPERMAUVE_OP_UNLOCK, 1);
-    plan_sync(f, 0, TAMPERMAUVE_OP_UNLOCK, 0);
-    sums_from("the sum, and an inner lock", f, start, alone, 0, 6, 1300);
-    sums_from("the sum, and an inner lock", f, start, alone, 7, 9, 1558);
+    unsigned inner;
+    for (inner = 0; inner < 2; inner++) {
+        plan_begin(f, 1);
+        take(f, 0, 0);
+        store(f, 0, 1258);
+        take(f, 0, 1);
+        give_back(f, 0, inner);
+        give_back(f, 0, 1u - inner);
+        sums_from("the sum, and an inner lock", f, start, alone, 0, 6, 1300);
+        sums_from("the sum, and an inner lock", f, start, alone, 7, 9, 1558);
+    }
 }
 
 /* Worker 1 has stored 60,000 at 2 when worker 0's exit commits: that is not in the sum, and its own failure loses it. */
@@ -1528,6 +2109,7 @@ int main(void) {
     token_cases(&f);
     sleeping_cases(&f);
     broadcast_cases(&f);
+    lock_cases(&f);
     sum_cases(&f);
     refusals(&f);
     report_refusals(&f);
