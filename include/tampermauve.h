@@ -28,12 +28,15 @@ extern "C" {
 
 /* ---- The version of the library that this header fits. A host that was compiled with a header of version 1 lends a report of 16
  *      bytes, and its runs are refused with 11: compile it anew. 2.1 has one call more than 2.0, tampermauve_run_all, with its refusal
- *      15, and nothing else is changed: a host that was compiled with a header of 2.0 can stay as it is. */
+ *      15, and nothing else is changed: a host that was compiled with a header of 2.0 can stay as it is. In 2.2 locks have names: a
+ *      worker that locks one which it holds, or unlocks one which it does not hold, fails, where before only the count of its locks
+ *      mattered. Calls, buffers, formats and numbers are those of 2.1, and a plan that does neither ends as it did: hosts that were
+ *      compiled with a header of 2.0 or 2.1 can stay as they are. */
 
 #define TAMPERMAUVE_VERSION_MAJOR 2
-#define TAMPERMAUVE_VERSION_MINOR 1
+#define TAMPERMAUVE_VERSION_MINOR 2
 #define TAMPERMAUVE_VERSION_PATCH 0
-#define TAMPERMAUVE_VERSION "2.1.0"
+#define TAMPERMAUVE_VERSION "2.2.0"
 
 /* ---- What a call returns: refusal + 256 x index, where index is that of a record of the file, the plan record being 0.
  *      The index is 0 for the refusals 1, 11, 12, 13 and 15. An accepted call returns 0. */
@@ -124,8 +127,8 @@ static inline uint32_t tampermauve_index(uint32_t returned) { return returned / 
 #define TAMPERMAUVE_OP_SKIP_NONZERO 22u /* so many steps, if the register is not zero */
 
 /* steps that synchronise: the register is 0 */
-#define TAMPERMAUVE_OP_LOCK 32u      /* a lock */
-#define TAMPERMAUVE_OP_UNLOCK 33u    /* a lock */
+#define TAMPERMAUVE_OP_LOCK 32u      /* a lock that this worker does not hold; others may */
+#define TAMPERMAUVE_OP_UNLOCK 33u    /* a lock that this worker holds */
 #define TAMPERMAUVE_OP_WAIT 34u      /* a condition */
 #define TAMPERMAUVE_OP_SIGNAL 35u    /* a condition, whose first waiter is woken */
 #define TAMPERMAUVE_OP_BROADCAST 36u /* a condition, all of whose waiters are woken */
@@ -170,9 +173,10 @@ static inline uint32_t tampermauve_index(uint32_t returned) { return returned / 
 
 #define TAMPERMAUVE_LOG_MARK 0x4C4Du /* 4D 4C as tampermauve_word reads it */
 
-/* Outcomes. Lock and unlock: the count after. Signal: the woken worker, or NONE. Broadcast: the number woken, 0 if none.
- * Barrier: QUEUED, or the size. Wait and exit: NONE. Start: STARTED, or AWAKE if the worker was not asleep. A failure: FAILED,
- * with the op as met. */
+/* Outcomes. Lock and unlock: how many locks the worker holds after. Signal: the woken worker, or NONE. Broadcast: the number woken,
+ * 0 if none. Barrier: QUEUED, or the size. Wait and exit: NONE. Start: STARTED, or AWAKE if the worker was not asleep. A failure:
+ * FAILED, with the op as met. These fail: a lock of one that the worker holds, an unlock of one that it does not hold, a wait with
+ * none held, a barrier or an exit with any held; what other workers hold plays no part. */
 #define TAMPERMAUVE_OUTCOME_QUEUED 0u
 #define TAMPERMAUVE_OUTCOME_STARTED 1u
 #define TAMPERMAUVE_OUTCOME_AWAKE 253u
