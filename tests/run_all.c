@@ -1,7 +1,7 @@
 /* tampermauve_run_all: many plans in one call. Every byte of every buffer is compared, and each call is made twice: once with each
  * buffer alone on the heap, so that valgrind sees an access outside of it, and once with guard bytes around each buffer. What is
- * expected is worked out by hand from document 01 and from request Four of document 02; only where forty plans are held against forty
- * calls of tampermauve_run it is what these leave. */
+ * expected is worked out by hand from document 01 and from requests Four and Five of document 02; only where forty plans are held
+ * against forty calls of tampermauve_run it is what these leave. */
 #include <stdio.h>
 #include <stdlib.h>
 #include <string.h>
@@ -380,6 +380,41 @@ static void add_ends(struct plan_file *f) {
     accepted(f, 999, &stuck);
 }
 
+/* One worker takes a lock, stores 7 at 0 and makes another step, of a lock. */
+static void lock_and_step(struct plan_file *f, unsigned op, unsigned lock) {
+    plan_begin(f, 1);
+    plan_sync(f, 0, TAMPERMAUVE_OP_LOCK, 3);
+    plan_add(f, 0, TAMPERMAUVE_OP_SET, 0, 7);
+    plan_add(f, 0, TAMPERMAUVE_OP_STORE, 0, 0);
+    plan_sync(f, 0, op, lock);
+}
+
+/* The wrong one unlocked and one lock taken twice, which lose the 7: arrival, lock, set, store, failure. The lock stays with its
+ * worker, and the plan behind has it free: arrival, lock, set, store, unlock; arrival, end. */
+static void add_named_locks(struct plan_file *f) {
+    static const struct expected wrong = {999, 1, 1, 5, 1, 2, {{1, 0, 32, 3, 1}, {1, 0, 33, 4, 254}}, {2}};
+    static const struct expected twice = {999, 1, 1, 5, 1, 2, {{1, 0, 32, 3, 1}, {1, 0, 32, 3, 254}}, {2}};
+    static const struct expected right = {7, 1, 1, 7, 2, 3, {{1, 0, 32, 3, 1}, {1, 0, 33, 3, 0}, {2, 0, 38, 0, 255}}, {1}};
+    lock_and_step(f, TAMPERMAUVE_OP_UNLOCK, 4);
+    accepted(f, 999, &wrong);
+    lock_and_step(f, TAMPERMAUVE_OP_LOCK, 3);
+    accepted(f, 999, &twice);
+    lock_and_step(f, TAMPERMAUVE_OP_UNLOCK, 3);
+    accepted(f, 999, &right);
+}
+
+/* Two locks given back as they were taken: arrival, four steps; arrival, end. */
+static void add_two_locks(struct plan_file *f) {
+    static const struct expected crosswise = {999, 1, 1, 7, 2, 5,
+        {{1, 0, 32, 3, 1}, {1, 0, 32, 12, 2}, {1, 0, 33, 3, 1}, {1, 0, 33, 12, 0}, {2, 0, 38, 0, 255}}, {1}};
+    plan_begin(f, 1);
+    plan_sync(f, 0, TAMPERMAUVE_OP_LOCK, 3);
+    plan_sync(f, 0, TAMPERMAUVE_OP_LOCK, 12);
+    plan_sync(f, 0, TAMPERMAUVE_OP_UNLOCK, 3);
+    plan_sync(f, 0, TAMPERMAUVE_OP_UNLOCK, 12);
+    accepted(f, 999, &crosswise);
+}
+
 /* A barrier of two, with both and with one of them. */
 static void add_barriers(struct plan_file *f) {
     static const struct expected met = {999, 1, 2, 8, 2, 4,
@@ -414,6 +449,8 @@ static void to_the_end(struct plan_file *f) {
     add_locks(f);
     add_woken(f);
     add_ends(f);
+    add_named_locks(f);
+    add_two_locks(f);
     add_barriers(f);
     add_sleepers(f);
     call("each to its own end", 0);
