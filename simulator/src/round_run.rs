@@ -2,10 +2,11 @@
 //!
 //! Written apart from the turn machine. Workers carry no arrival flag, each
 //! condition and each barrier has its own queue, and the private bytes of a
-//! worker are cells by address in place of pages. The sum of the words at even
-//! addresses is kept at each commit, where the turn machine works it out afresh.
+//! worker are cells by address in place of pages. A worker's locks are a set of
+//! their numbers, in place of bits. The sum of the words at even addresses is
+//! kept at each commit, where the turn machine works it out afresh.
 
-use std::collections::VecDeque;
+use std::collections::{BTreeSet, VecDeque};
 
 use crate::check::{Plan, Step};
 use crate::outcome::Outcome;
@@ -24,7 +25,7 @@ const ASLEEP: u8 = 5;
 struct Seat {
     place: usize,
     registers: [u16; 4],
-    count: u32,
+    locks: BTreeSet<u16>,
     cells: Vec<Option<Cell>>,
     fate: u8,
 }
@@ -71,7 +72,7 @@ impl<'a> Rounds<'a> {
         let seat = |who| Seat {
             place: 0,
             registers: [0; 4],
-            count: 0,
+            locks: BTreeSet::new(),
             cells: vec![None; memory.len()],
             fate: if sleeps(&who) { ASLEEP } else { 0 },
         };
@@ -219,18 +220,12 @@ impl<'a> Rounds<'a> {
     /// A synchronising step of the holder, its end as op 38 included.
     fn synchronising(&mut self, who: usize, op: u8, number: u16) -> Then {
         self.moves += 1;
-        let held = self.seats[who].count > 0;
-        let failed = match op {
-            33 | 34 => !held,
-            37 | 38 => held,
-            _ => false,
-        };
-        let (outcome, then) = if failed {
+        let (outcome, then) = if self.fails(who, op, number) {
             // Its cells stay behind unread: the worker never moves again.
             (254, Then::Away(2))
         } else {
             self.seats[who].place += 1;
-            self.carry_out(who, op, number as usize)
+            self.carry_out(who, op, number)
         };
         let round = (self.completed + 1) as u16;
         self.log.push([
@@ -246,36 +241,53 @@ impl<'a> Rounds<'a> {
         then
     }
 
+    /// Whether a synchronising step is a failure. What others have locked
+    /// plays no part.
+    fn fails(&self, who: usize, op: u8, number: u16) -> bool {
+        let locks = &self.seats[who].locks;
+        match op {
+            32 => locks.contains(&number),
+            33 => !locks.contains(&number),
+            34 => locks.is_empty(),
+            37 | 38 => !locks.is_empty(),
+            _ => false,
+        }
+    }
+
     /// A synchronising step that does not fail: its outcome and what follows.
-    fn carry_out(&mut self, who: usize, op: u8, number: usize) -> (u8, Then) {
-        let count = self.seats[who].count;
+    fn carry_out(&mut self, who: usize, op: u8, number: u16) -> (u8, Then) {
+        let name = number as usize;
+        let held = self.seats[who].locks.len();
         let commits = match op {
-            32 => count == 0,
-            33 => count == 1,
+            32 => held == 0,
+            33 => held == 1,
             _ => true,
         };
         if commits {
             self.commit(who);
         }
         match op {
-            32 => self.count_to(who, count + 1),
-            33 => self.count_to(who, count - 1),
+            32 | 33 => self.lock_or_unlock(who, op == 32, number),
             34 => {
-                self.conditions[number].push_back(who);
+                self.conditions[name].push_back(who);
                 (255, Then::Away(3))
             }
-            35 => (self.wake(number), run_on_if(count > 0)),
-            36 => (self.wake_all(number), run_on_if(count > 0)),
-            37 => self.meet(who, number),
-            39 => (self.rouse(number), Then::RunOn),
+            35 => (self.wake(name), run_on_if(held > 0)),
+            36 => (self.wake_all(name), run_on_if(held > 0)),
+            37 => self.meet(who, name),
+            39 => (self.rouse(name), Then::RunOn),
             _ => (255, Then::Away(1)),
         }
     }
 
-    /// After a lock or an unlock the worker runs on while its count is not 0.
-    fn count_to(&mut self, who: usize, count: u32) -> (u8, Then) {
-        self.seats[who].count = count;
-        (count as u8, run_on_if(count > 0))
+    /// The worker runs on while it holds a lock, and so behind every lock.
+    fn lock_or_unlock(&mut self, who: usize, locks: bool, number: u16) -> (u8, Then) {
+        let held = &mut self.seats[who].locks;
+        match locks {
+            true => held.insert(number),
+            false => held.remove(&number),
+        };
+        (held.len() as u8, run_on_if(!held.is_empty()))
     }
 
     fn wake(&mut self, condition: usize) -> u8 {

@@ -10,6 +10,8 @@
 //!   step writes nothing to shared memory.
 //! * A failure logs the op and the number as met; the end of the steps is met
 //!   as op 38 with number 0.
+//! * A failing lock or unlock leaves the worker's set of locks as it is, and
+//!   nobody looks at a failed worker's set again.
 //! * A holder with a count above 0 that wakes two workers one after the other
 //!   puts the second directly behind itself, so in front of the first. Those
 //!   whom a broadcast wakes go, as they waited, in front of whomever the same
@@ -24,6 +26,8 @@
 //! * The report's sum is that of shared memory as it stands, whatever workers
 //!   have in their copies, after no turns too. It is worked out afresh here.
 
+mod held;
+
 use crate::check::{Plan, Step};
 use crate::counts::{
     Authors, By, Change, Counts, Found, Hold, Joining, Move, Place, Sight, Stand, Waking,
@@ -33,6 +37,7 @@ use crate::format::{
     REPORT_FATES, REPORT_LENGTH, REPORT_SUM,
 };
 use crate::outcome::Outcome;
+use held::Held;
 
 const PAGE_SIZE: usize = 256;
 const PAGES: usize = 8;
@@ -67,7 +72,7 @@ struct Worker {
     registers: [u16; 4],
     /// Registers that have been given a value; only counts need it.
     known: [bool; 4],
-    count: u8,
+    held: Held,
     copies: [Option<Box<PageCopy>>; PAGES],
     /// Addresses of the stores into these copies; only counts need them.
     stored: Vec<usize>,
@@ -76,17 +81,22 @@ struct Worker {
 }
 
 impl Worker {
-    fn new(fate: Fate) -> Self {
+    fn new(fate: Fate, held: Held) -> Self {
         Worker {
             place: 0,
             registers: [0; 4],
             known: [false; 4],
-            count: 0,
+            held,
             copies: Default::default(),
             stored: Vec::new(),
             arrived: false,
             fate,
         }
+    }
+
+    /// How many locks it holds.
+    fn count(&self) -> u8 {
+        self.held.size()
     }
 
     fn has_copies(&self) -> bool {
@@ -246,9 +256,20 @@ pub struct Machine<'a> {
 impl<'a> Machine<'a> {
     /// The start of round 1.
     pub fn new(plan: &'a Plan, memory: &[u8]) -> Self {
-        let mut workers = vec![Worker::new(Fate::Going); plan.workers()];
+        Machine::holding(plan, memory, Held::NO_NAMES)
+    }
+
+    /// The start of round 1 by the rule that only the count of locks matters,
+    /// not which ones they are. It stood before locks had names; no call uses
+    /// it. The counts of limits say nothing here.
+    pub fn counting(plan: &'a Plan, memory: &[u8]) -> Self {
+        Machine::holding(plan, memory, Held::NO_COUNT)
+    }
+
+    fn holding(plan: &'a Plan, memory: &[u8], held: Held) -> Self {
+        let mut workers = vec![Worker::new(Fate::Going, held); plan.workers()];
         for &sleeper in &plan.sleepers {
-            workers[usize::from(sleeper)] = Worker::new(Fate::Asleep);
+            workers[usize::from(sleeper)].fate = Fate::Asleep;
         }
         let awake = |worker: &usize| workers[*worker].fate == Fate::Going;
         let list: Vec<usize> = (0..plan.workers()).filter(awake).collect();
@@ -387,7 +408,7 @@ impl<'a> Machine<'a> {
             place: self.workers[worker].place,
             length: self.plan.steps[worker].len(),
             record: self.first[worker] + self.workers[worker].place,
-            count: self.workers[worker].count,
+            count: self.workers[worker].count(),
         }
     }
 
@@ -412,7 +433,7 @@ impl<'a> Machine<'a> {
         self.counts
             .limits
             .behind_start(stand, step.op, hold, copied);
-        let (outcome, token) = if self.fails(worker, step.op) {
+        let (outcome, token) = if self.fails(worker, step) {
             self.counts.limits.failed(stand, step.op);
             let lost = self.workers[worker].changes(&self.shared);
             self.counts.limits.lost(stand, step.op, &lost);
@@ -425,11 +446,13 @@ impl<'a> Machine<'a> {
         self.settle(worker, token);
     }
 
-    fn fails(&self, worker: usize, op: u8) -> bool {
-        let free = self.workers[worker].count == 0;
-        match op {
-            33 | 34 => free,
-            37 | 38 => !free,
+    fn fails(&self, worker: usize, step: Step) -> bool {
+        let held = self.workers[worker].held;
+        match step.op {
+            32 => !held.can_lock(step.number),
+            33 => !held.can_unlock(step.number),
+            34 => held.size() == 0,
+            37 | 38 => held.size() > 0,
             _ => false,
         }
     }
@@ -442,8 +465,8 @@ impl<'a> Machine<'a> {
 
     fn synchronise(&mut self, worker: usize, step: Step) -> (u8, Token) {
         match step.op {
-            32 => self.lock(worker),
-            33 => self.unlock(worker),
+            32 => self.lock(worker, step.number),
+            33 => self.unlock(worker, step.number),
             34 => self.wait(worker, step.number),
             OP_SIGNAL => self.signal(worker, step.number),
             OP_BROADCAST => self.broadcast(worker, step.number),
@@ -467,21 +490,22 @@ impl<'a> Machine<'a> {
 
     /// One of two ways to commit, the second one with a count above 0.
     fn by_count(&self, worker: usize, ways: [By; 2]) -> By {
-        ways[usize::from(self.workers[worker].count > 0)]
+        ways[usize::from(self.workers[worker].count() > 0)]
     }
 
-    fn lock(&mut self, worker: usize) -> (u8, Token) {
-        if self.workers[worker].count == 0 {
+    fn lock(&mut self, worker: usize, lock: u16) -> (u8, Token) {
+        if self.workers[worker].count() == 0 {
             self.commit(worker, By::Lock);
         }
-        self.workers[worker].count += 1;
-        self.counts.limits.counted(32, self.workers[worker].count);
-        (self.workers[worker].count, Token::Keep)
+        self.workers[worker].held.lock(lock);
+        let count = self.workers[worker].count();
+        self.counts.limits.counted(32, count);
+        (count, Token::Keep)
     }
 
-    fn unlock(&mut self, worker: usize) -> (u8, Token) {
-        self.workers[worker].count -= 1;
-        let count = self.workers[worker].count;
+    fn unlock(&mut self, worker: usize, lock: u16) -> (u8, Token) {
+        self.workers[worker].held.unlock(lock);
+        let count = self.workers[worker].count();
         self.counts.limits.counted(33, count);
         if count > 0 {
             return (count, Token::Keep);
@@ -492,7 +516,7 @@ impl<'a> Machine<'a> {
 
     fn wait(&mut self, worker: usize, condition: u16) -> (u8, Token) {
         self.commit(worker, By::Wait);
-        self.counts.limits.waits(self.workers[worker].count);
+        self.counts.limits.waits(self.workers[worker].count());
         self.workers[worker].fate = Fate::OnCondition;
         self.parked.push((Spot::Condition(condition), worker));
         (NOBODY, Token::Leave)
@@ -520,7 +544,7 @@ impl<'a> Machine<'a> {
     }
 
     fn token_behind_waking(&self, worker: usize) -> Token {
-        match self.workers[worker].count {
+        match self.workers[worker].count() {
             0 => Token::GiveUp,
             _ => Token::Keep,
         }
@@ -530,7 +554,7 @@ impl<'a> Machine<'a> {
     fn put_behind_holder(&mut self, holder: usize, op: u8, woken: &[usize]) {
         self.count_waking(holder, op, woken.len());
         for (place, &waiter) in woken.iter().enumerate() {
-            let kept = self.workers[waiter].count;
+            let kept = self.workers[waiter].count();
             self.counts.limits.woken(kept, self.list.len());
             self.came += 1;
             self.counts.limits.came(self.came, self.workers.len());
@@ -544,7 +568,7 @@ impl<'a> Machine<'a> {
         let on_condition = |(at, _): &&(Spot, usize)| matches!(at, Spot::Condition(_));
         let waking = Waking {
             op,
-            count: self.workers[holder].count,
+            count: self.workers[holder].count(),
             woken,
             behind: self.list.len() - 1,
             left: self.parked.iter().filter(on_condition).count(),
@@ -576,7 +600,7 @@ impl<'a> Machine<'a> {
         let found = self.found(target);
         let ways = found.map_or(By::START, |_| By::START_OF_NO_SLEEPER);
         self.commit(worker, self.by_count(worker, ways));
-        let count = self.workers[worker].count;
+        let count = self.workers[worker].count();
         self.counts.limits.starts(count, found);
         self.hold.any = true;
         if self.workers[target].fate != Fate::Asleep {
@@ -673,7 +697,7 @@ impl<'a> Machine<'a> {
         for (behind, &each) in self.list.iter().enumerate() {
             let worker = &self.workers[each];
             let place = match (full, behind, worker.arrived) {
-                (true, 0, _) if worker.count > 0 => Place::HoldsWithCount,
+                (true, 0, _) if worker.count() > 0 => Place::HoldsWithCount,
                 (true, 0, _) => Place::Holds,
                 (true, ..) => Place::BehindHolder,
                 (false, _, true) => Place::AtFence,

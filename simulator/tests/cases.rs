@@ -226,8 +226,8 @@ fn what_a_failure_loses() {
     let store = [(16, 0, 1), (18, 0, 0)];
     let end = (38, 0, 0);
     let first = [store[0], store[1], (32, 0, 0), end];
-    let second = [(32, 0, 0), store[0], store[1], (32, 0, 0), end];
-    let inner = [(32, 0, 0), (32, 0, 0), store[0], store[1], (33, 0, 0), end];
+    let second = [(32, 0, 0), store[0], store[1], (32, 0, 1), end];
+    let inner = [(32, 0, 0), (32, 0, 1), store[0], store[1], (33, 0, 0), end];
     let signal = [(32, 0, 0), store[0], store[1], (35, 0, 0), (18, 0, 2), end];
     let rows: [(Row, u16); 4] = [(&first, 1), (&second, 0), (&inner, 0), (&signal, 1)];
     for (row, word) in rows {
