@@ -3,12 +3,14 @@
 
 mod board;
 mod limits;
+mod locks;
 mod meeting;
 mod sums;
 mod waking;
 
 pub use board::{Board, Row};
 pub use limits::{Limit, Met, ROWS};
+pub use locks::{Other, Taken, Tried};
 pub use meeting::{Found, Hold, Joining, Meetings, Move, Sight, Stand};
 pub use sums::{Authors, By, Change, Place};
 pub use waking::{Waking, Woke};

@@ -30,7 +30,8 @@ mod held;
 
 use crate::check::{Plan, Step};
 use crate::counts::{
-    Authors, By, Change, Counts, Found, Hold, Joining, Move, Place, Sight, Stand, Waking,
+    Authors, By, Change, Counts, Found, Hold, Joining, Move, Other, Place, Sight, Stand, Taken,
+    Tried, Waking,
 };
 use crate::format::{
     LOG_MARK, LOG_RECORD_LENGTH, MOST_WORKERS, OP_BROADCAST, OP_EXIT, OP_SIGNAL, OP_START,
@@ -73,6 +74,8 @@ struct Worker {
     /// Registers that have been given a value; only counts need it.
     known: [bool; 4],
     held: Held,
+    /// The locks in their order; only counts need it.
+    taken: Taken,
     copies: [Option<Box<PageCopy>>; PAGES],
     /// Addresses of the stores into these copies; only counts need them.
     stored: Vec<usize>,
@@ -87,6 +90,7 @@ impl Worker {
             registers: [0; 4],
             known: [false; 4],
             held,
+            taken: Taken::default(),
             copies: Default::default(),
             stored: Vec::new(),
             arrived: false,
@@ -97,6 +101,15 @@ impl Worker {
     /// How many locks it holds.
     fn count(&self) -> u8 {
         self.held.size()
+    }
+
+    /// Where it is, as one that holds a lock without having the token.
+    fn as_other(&self) -> Other {
+        match self.fate {
+            Fate::OnCondition => Other::Waits,
+            Fate::Failed => Other::Failed,
+            _ => Other::WasWoken,
+        }
     }
 
     fn has_copies(&self) -> bool {
@@ -433,7 +446,11 @@ impl<'a> Machine<'a> {
         self.counts
             .limits
             .behind_start(stand, step.op, hold, copied);
-        let (outcome, token) = if self.fails(worker, step) {
+        let fails = self.fails(worker, step);
+        if matches!(step.op, 32 | 33) {
+            self.count_lock(stand, step, fails);
+        }
+        let (outcome, token) = if fails {
             self.counts.limits.failed(stand, step.op);
             let lost = self.workers[worker].changes(&self.shared);
             self.counts.limits.lost(stand, step.op, &lost);
@@ -455,6 +472,19 @@ impl<'a> Machine<'a> {
             37 | 38 => held.size() > 0,
             _ => false,
         }
+    }
+
+    /// The holder comes to a lock or an unlock.
+    fn count_lock(&mut self, stand: Stand, step: Step, fails: bool) {
+        let tried = Tried::new(step.op, stand.count, fails);
+        let elsewhere = |worker: &&Worker| worker.taken.holds(step.number);
+        let before = self.workers[..stand.worker].iter();
+        let others = before.chain(&self.workers[stand.worker + 1..]);
+        let others: Vec<Other> = others.filter(elsewhere).map(Worker::as_other).collect();
+        let limits = &mut self.counts.limits;
+        limits.held_by_others(step.number, tried, &others);
+        let taken = &mut self.workers[stand.worker].taken;
+        limits.tries(stand, step.number, tried, taken);
     }
 
     fn fail(&mut self, worker: usize) -> (u8, Token) {
@@ -517,6 +547,7 @@ impl<'a> Machine<'a> {
     fn wait(&mut self, worker: usize, condition: u16) -> (u8, Token) {
         self.commit(worker, By::Wait);
         self.counts.limits.waits(self.workers[worker].count());
+        self.workers[worker].taken.wait();
         self.workers[worker].fate = Fate::OnCondition;
         self.parked.push((Spot::Condition(condition), worker));
         (NOBODY, Token::Leave)

@@ -2,6 +2,9 @@
 //! not without the plan beside them.
 
 use crate::counts::board::Row;
+use crate::counts::locks::{
+    beside_one, given_back, kept_lock, of_other, of_worker, taken_again, BESIDE, LOCKS,
+};
 use crate::counts::sums::{
     border_store, byte_over, commit_by, lost, odd_store, uncommitted, word_of_two, COMMITS, MOVED,
 };
@@ -62,6 +65,16 @@ pub enum Limit {
     BorderStore,
     Uncommitted,
     Lost,
+    FailedLock,
+    FailedUnlock,
+    LockOfWorker,
+    LockBeside,
+    GivenBack,
+    TakenAgain,
+    KeptLock,
+    LockOfOther,
+    LockOfOthers,
+    HeldByTwo,
 }
 
 /// A row and the place in it of a limit that was met.
@@ -81,7 +94,7 @@ const fn row(
     (limit, row)
 }
 
-const COUNT: usize = 51;
+const COUNT: usize = 61;
 
 /// Count of ops: 16 to 22 and 32 to 39.
 pub const OPS: usize = PLAIN.len() + SYNCHRONISING.len();
@@ -130,18 +143,33 @@ const TABLE: [(Limit, Row); COUNT] = [
         2,
         skip_op,
     ),
-    row(Limit::Lock, "lock, count behind it", 128, from_one),
-    row(Limit::Unlock, "unlock, count behind it", 127, from_zero),
-    row(Limit::FailedBarrier, "barrier failed, count", 127, from_one),
-    row(Limit::FailedExit, "exit failed, count", 127, from_one),
+    row(Limit::Lock, "lock, locks held behind it", LOCKS, from_one),
     row(
-        Limit::FailedEnd,
-        "end of steps failed, count",
-        128,
+        Limit::Unlock,
+        "unlock, locks held behind it",
+        LOCKS,
+        from_zero,
+    ),
+    row(
+        Limit::FailedBarrier,
+        "barrier failed, locks held",
+        LOCKS,
         from_one,
     ),
-    row(Limit::Wait, "wait, count kept", 127, from_one),
-    row(Limit::Waking, "woken, count kept", 127, from_one),
+    row(
+        Limit::FailedExit,
+        "exit failed, locks held",
+        LOCKS,
+        from_one,
+    ),
+    row(
+        Limit::FailedEnd,
+        "end of steps failed, locks held",
+        LOCKS,
+        from_one,
+    ),
+    row(Limit::Wait, "wait, locks kept", LOCKS, from_one),
+    row(Limit::Waking, "woken, locks kept", LOCKS, from_one),
     row(
         Limit::WokenInto,
         "woken into a list, workers in it before",
@@ -166,8 +194,8 @@ const TABLE: [(Limit, Row); COUNT] = [
     ),
     row(
         Limit::CountedSignal,
-        "signal or broadcast, count",
-        254,
+        "signal or broadcast, locks held",
+        2 * LOCKS,
         signal_and_count,
     ),
     row(Limit::Address, "load or store at address", 4_094, address),
@@ -189,7 +217,12 @@ const TABLE: [(Limit, Row); COUNT] = [
         COMMITTED.len(),
         |place| COMMITTED[place].to_string(),
     ),
-    row(Limit::Start, "start by outcome and count", 256, start),
+    row(
+        Limit::Start,
+        "start by outcome and locks held",
+        2 * (LOCKS + 1),
+        start,
+    ),
     row(
         Limit::StartFound,
         "start of one that does not sleep",
@@ -303,8 +336,68 @@ const TABLE: [(Limit, Row); COUNT] = [
     row(
         Limit::Lost,
         "bytes that would move the sum, lost by a failure",
-        5,
+        7,
         lost,
+    ),
+    row(
+        Limit::FailedLock,
+        "lock failed, being held, locks held",
+        LOCKS,
+        from_one,
+    ),
+    row(
+        Limit::FailedUnlock,
+        "unlock failed, locks held",
+        LOCKS,
+        from_zero,
+    ),
+    row(
+        Limit::LockOfWorker,
+        "lock or unlock by number and worker",
+        4 * LOCKS * 8,
+        of_worker,
+    ),
+    row(
+        Limit::LockBeside,
+        "lock or unlock with one lock held",
+        2 * LOCKS * LOCKS,
+        beside_one,
+    ),
+    row(
+        Limit::GivenBack,
+        "unlock with several locks held",
+        3,
+        given_back,
+    ),
+    row(
+        Limit::TakenAgain,
+        "lock that was given back before",
+        2 * LOCKS,
+        taken_again,
+    ),
+    row(
+        Limit::KeptLock,
+        "behind a wait with locks kept",
+        8,
+        kept_lock,
+    ),
+    row(
+        Limit::LockOfOther,
+        "lock or unlock of one that another holds",
+        BESIDE,
+        of_other,
+    ),
+    row(
+        Limit::LockOfOthers,
+        "lock that others hold, how many",
+        7,
+        from_one,
+    ),
+    row(
+        Limit::HeldByTwo,
+        "lock held by two workers at once",
+        LOCKS,
+        from_zero,
     ),
 ];
 
@@ -359,8 +452,8 @@ fn op_and_register(place: usize) -> String {
 }
 
 fn signal_and_count(place: usize) -> String {
-    let op = SYNCHRONISING[3 + place / 127];
-    format!("{op}, {}", place % 127 + 1)
+    let op = SYNCHRONISING[3 + place / LOCKS];
+    format!("{op}, {}", place % LOCKS + 1)
 }
 
 const LOAD_STORE: [&str; 2] = ["load", "store"];
@@ -428,8 +521,8 @@ fn last_turn(place: usize) -> String {
 const HELD: [&str; 2] = ["count 0", "count above 0"];
 
 fn start(place: usize) -> String {
-    let whom = ["a sleeper", "no sleeper"][place / 128];
-    format!("{whom}, count {}", place % 128)
+    let whom = ["a sleeper", "no sleeper"][place / (LOCKS + 1)];
+    format!("{whom}, {}", place % (LOCKS + 1))
 }
 
 /// In the order of `Found`.

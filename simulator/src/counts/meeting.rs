@@ -2,6 +2,7 @@
 
 use crate::check::Step;
 use crate::counts::limits::{Limit, Met, COMMITTED, OPS, RECORDS, SET, TURNS};
+use crate::counts::locks::LOCKS;
 use crate::counts::waking::Woke;
 use crate::format::{MOST_STEPS, MOST_TURNS, MOST_WORKERS, OP_START};
 
@@ -16,6 +17,7 @@ pub struct Stand {
     pub length: usize,
     /// Index of the record of the step at hand.
     pub record: usize,
+    /// How many locks it holds.
     pub count: u8,
 }
 
@@ -206,7 +208,7 @@ impl Meetings {
         let count = usize::from(count);
         self.note(
             Limit::Start,
-            MOST_STEPS * usize::from(found.is_some()) + count,
+            (LOCKS + 1) * usize::from(found.is_some()) + count,
         );
         if let Some(found) = found {
             let place = 2 * found as usize + usize::from(count > 0);

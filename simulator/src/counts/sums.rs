@@ -167,11 +167,13 @@ impl Meetings {
             return;
         }
         let place = match op {
-            33 => 0,
+            33 if stand.count == 0 => 0,
             34 => 1,
             37 => 2,
-            _ if stand.place < stand.length => 3,
-            _ => 4,
+            38 if stand.place < stand.length => 3,
+            38 => 4,
+            32 => 5,
+            _ => 6,
         };
         self.note(Limit::Lost, place);
     }
@@ -230,6 +232,14 @@ pub fn uncommitted(place: usize) -> String {
 }
 
 pub fn lost(place: usize) -> String {
-    let names = ["unlock", "wait", "barrier", "exit", "end of steps"];
+    let names = [
+        "unlock, none held",
+        "wait",
+        "barrier",
+        "exit",
+        "end of steps",
+        "lock",
+        "unlock, others held",
+    ];
     names[place].to_string()
 }

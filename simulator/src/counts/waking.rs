@@ -2,6 +2,7 @@
 //! who waits on, and how many come into one round's list.
 
 use crate::counts::limits::Limit;
+use crate::counts::locks::LOCKS;
 use crate::counts::meeting::{Hold, Meetings};
 use crate::format::{MOST_WORKERS, OP_BROADCAST, OP_SIGNAL};
 
@@ -56,7 +57,7 @@ impl Meetings {
     pub fn wakes(&mut self, waking: Waking, hold: &mut Hold) {
         if let Some(above) = usize::from(waking.count).checked_sub(1) {
             let which = usize::from(waking.op - OP_SIGNAL);
-            self.note(Limit::CountedSignal, 127 * which + above);
+            self.note(Limit::CountedSignal, LOCKS * which + above);
         }
         if waking.op == OP_BROADCAST {
             self.broadcasts(waking);

@@ -7,6 +7,7 @@ use std::collections::VecDeque;
 use crate::check::Step;
 use crate::format::{MOST_STEPS, MOST_WORKERS, OP_BROADCAST, OP_SIGNAL, OP_START, QUEUES};
 use crate::generate::draft::{step, Draft};
+use crate::generate::locks::{another_lock, any_order, each_lock};
 use crate::generate::rng::Rng;
 use crate::generate::starts::sleepers_at_times;
 
@@ -56,7 +57,8 @@ struct Lists<'a> {
     /// Nobody is woken before so many wait, but for now and then.
     patience: usize,
     steps: Vec<Vec<Step>>,
-    locks: Vec<usize>,
+    /// The locks of each worker.
+    locks: Vec<Vec<u16>>,
     list: VecDeque<usize>,
     next: VecDeque<usize>,
     asleep: Vec<usize>,
@@ -73,7 +75,7 @@ impl<'a> Lists<'a> {
             waiting: vec![Vec::new(); used],
             patience: patience(rng, workers),
             steps: vec![Vec::new(); workers],
-            locks: vec![0; workers],
+            locks: vec![Vec::new(); workers],
             list: (0..workers).filter(|who| !asleep.contains(who)).collect(),
             next: VecDeque::new(),
             asleep,
@@ -97,7 +99,7 @@ impl<'a> Lists<'a> {
         if self.wants_to_wake() {
             return self.wake(holder);
         }
-        match (self.locks[holder], self.rng.below(16)) {
+        match (self.locks[holder].len(), self.rng.below(16)) {
             (_, 0) => self.bump(holder),
             (_, 1) => self.start(holder),
             (0, 2) => self.wake(holder),
@@ -124,18 +126,20 @@ impl<'a> Lists<'a> {
     }
 
     fn lock(&mut self, holder: usize) {
-        self.put(holder, 32, 4);
-        self.locks[holder] += 1;
+        let lock = another_lock(self.rng, &self.locks[holder]);
+        self.put(holder, 32, lock);
+        self.locks[holder].push(lock);
     }
 
     fn unlock(&mut self, holder: usize) {
-        self.put(holder, 33, 4);
-        self.locks[holder] -= 1;
+        let place = self.rng.below(self.locks[holder].len());
+        let lock = self.locks[holder].remove(place);
+        self.put(holder, 33, lock);
         self.give_up_without_lock(holder);
     }
 
     fn give_up_without_lock(&mut self, holder: usize) {
-        if self.locks[holder] == 0 {
+        if self.locks[holder].is_empty() {
             self.list.pop_front();
             self.next.push_back(holder);
         }
@@ -214,8 +218,8 @@ impl<'a> Lists<'a> {
                 _ => {}
             }
         }
-        for (own, &locks) in self.steps.iter_mut().zip(&self.locks) {
-            own.extend(vec![step(33, 0, 4); locks]);
+        for (own, locks) in self.steps.iter_mut().zip(&self.locks) {
+            own.extend(each_lock(33, &any_order(self.rng, locks)));
         }
     }
 }

@@ -3,6 +3,7 @@
 use crate::check::Step;
 use crate::format::{MOST_WORKERS, QUEUES};
 use crate::generate::draft::{step, Draft};
+use crate::generate::locks::{any_order, each_lock, some_locks};
 use crate::generate::rng::Rng;
 
 /// A barrier of one worker, which takes a round and nothing else.
@@ -44,16 +45,18 @@ fn meeting(rng: &mut Rng, barrier: u16) -> Vec<Step> {
     own
 }
 
-/// Waits a few times, at times twice with one lock.
+/// Waits a few times, with one lock or several, at times twice with the same.
 fn waiting(rng: &mut Rng, conditions: &[u16]) -> Vec<Step> {
     let mut own = Vec::new();
     for _ in 0..rng.between(1, 2) {
         own.extend(pauses(rng));
-        own.push(step(32, 0, 0));
+        let count = rng.pick(&[1, 1, 2, 3]);
+        let locks = some_locks(rng, count);
+        own.extend(each_lock(32, &locks));
         let condition = rng.pick(conditions);
         let waits = if rng.chance(1, 4) { 2 } else { 1 };
         own.extend(vec![step(34, 0, condition); waits]);
-        own.push(step(33, 0, 0));
+        own.extend(each_lock(33, &any_order(rng, &locks)));
     }
     own
 }

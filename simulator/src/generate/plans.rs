@@ -5,7 +5,9 @@ use crate::format::{MOST_STEPS, MOST_WORKERS, QUEUES};
 use crate::generate::broadcasts::broadcasts;
 use crate::generate::deep::deep;
 use crate::generate::draft::{step, Draft};
+use crate::generate::locks::{any_order, each_lock, held_behind, some_locks};
 use crate::generate::long_queues::long_queues;
+use crate::generate::names::names;
 use crate::generate::rng::Rng;
 use crate::generate::script::{add_skips, script, Taste, BLOCKS};
 use crate::generate::starts::{add_starts, sleepers, sleepers_at_times, with_sleepers};
@@ -38,6 +40,8 @@ pub enum PlanKind {
     Broadcasts,
     /// Workers that write the same words in every round.
     Sums,
+    /// Workers that hold several locks at once, the same ones as others do.
+    Names,
     /// The longest file: 1,040 records.
     Longest,
     /// The longest log: 1,032 records; without starts, in as many moves as can
@@ -45,7 +49,7 @@ pub enum PlanKind {
     FullLog,
     /// One worker behind the other, so that rounds go far above 255.
     Relay,
-    /// High counts of locks.
+    /// Up to sixteen locks at once.
     Deep,
     /// Nearly all workers in one queue.
     LongQueues,
@@ -53,7 +57,7 @@ pub enum PlanKind {
 
 impl PlanKind {
     /// Every kind.
-    pub const ALL: [PlanKind; 17] = [
+    pub const ALL: [PlanKind; 18] = [
         PlanKind::Empty,
         PlanKind::Race,
         PlanKind::Locks,
@@ -66,6 +70,7 @@ impl PlanKind {
         PlanKind::Starts,
         PlanKind::Broadcasts,
         PlanKind::Sums,
+        PlanKind::Names,
         PlanKind::Longest,
         PlanKind::FullLog,
         PlanKind::Relay,
@@ -80,7 +85,8 @@ impl PlanKind {
     /// The kinds whose plans are long.
     pub const LONG: [PlanKind; 3] = [PlanKind::Longest, PlanKind::FullLog, PlanKind::Relay];
 
-    /// The kinds whose plans stay small, but for the one that is about sums.
+    /// The kinds whose plans stay small, but for those that are about sums and
+    /// about locks by name.
     pub const SMALL: [PlanKind; 11] = [
         PlanKind::Empty,
         PlanKind::Race,
@@ -113,7 +119,7 @@ impl PlanKind {
             PlanKind::Longest => [12, 12, 18, 2, 14, 2, 0, 0, 0, 2],
             PlanKind::FullLog | PlanKind::Relay => [0; BLOCKS],
             PlanKind::Deep | PlanKind::LongQueues => [0; BLOCKS],
-            PlanKind::Broadcasts | PlanKind::Sums => [0; BLOCKS],
+            PlanKind::Broadcasts | PlanKind::Sums | PlanKind::Names => [0; BLOCKS],
         }
     }
 }
@@ -134,6 +140,10 @@ pub fn plan(rng: &mut Rng, kind: PlanKind) -> Draft {
         PlanKind::Phases => phases(rng),
         PlanKind::Broadcasts => broadcasts(rng),
         PlanKind::Sums => sums(rng),
+        PlanKind::Names => {
+            let draft = names(rng);
+            with_sleepers(rng, draft)
+        }
         PlanKind::Deep => {
             let draft = deep(rng);
             with_sleepers(rng, draft)
@@ -279,10 +289,8 @@ fn phases(rng: &mut Rng) -> Draft {
 
 /// Unlocks what the steps leave locked when all of them are run.
 fn close(steps: &mut Vec<Step>) {
-    let of = |op: u8| steps.iter().filter(|step| step.op == op).count();
-    for _ in of(33)..of(32) {
-        steps.push(step(33, 0, 0));
-    }
+    let held = held_behind(steps);
+    steps.extend(each_lock(33, &held));
 }
 
 /// Eight workers with 128 steps each, eight barriers and seven sleepers.
@@ -332,8 +340,10 @@ fn full_log_block(rng: &mut Rng, own: &mut Vec<Step>, kind: usize, room: usize) 
     match kind {
         1 if room >= 2 => own.extend([step(32, 0, 9), step(33, 0, 9)]),
         2 if room >= 4 => {
-            own.extend([step(32, 0, 0), step(32, 0, 15)]);
-            own.extend([step(33, 0, 0), step(33, 0, 15)]);
+            let count = rng.between(2, (room / 2).min(4));
+            let locks = some_locks(rng, count);
+            own.extend(each_lock(32, &locks));
+            own.extend(each_lock(33, &any_order(rng, &locks)));
         }
         3 => own.push(step(37, 0, 7)),
         4 => own.push(step(36, 0, condition)),

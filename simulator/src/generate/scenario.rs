@@ -82,6 +82,7 @@ impl Scenarios {
             0..3 => rng.pick(&PlanKind::LONG),
             3..6 => rng.pick(&PlanKind::FAR),
             6..16 => PlanKind::Sums,
+            16..21 => PlanKind::Names,
             _ => rng.pick(&PlanKind::SMALL),
         };
         let draft = plan(&mut rng, kind);

@@ -3,6 +3,7 @@
 use crate::check::Step;
 use crate::format::MOST_STEPS;
 use crate::generate::draft::step;
+use crate::generate::locks::{another_lock, any_order, held_behind};
 use crate::generate::rng::Rng;
 
 /// What the workers of one plan have in common.
@@ -65,8 +66,27 @@ impl Script<'_> {
         self.rng.below(4) as u8
     }
 
-    fn lock_number(&mut self) -> u16 {
-        self.rng.below(16) as u16
+    /// A lock that the steps so far do not leave locked.
+    fn free_lock(&mut self) -> u16 {
+        another_lock(self.rng, &held_behind(&self.steps))
+    }
+
+    /// Takes so many more locks and says which.
+    fn take(&mut self, count: usize) -> Vec<u16> {
+        let mut taken = Vec::new();
+        for _ in 0..count {
+            let lock = self.free_lock();
+            self.put(32, 0, lock);
+            taken.push(lock);
+        }
+        taken
+    }
+
+    /// Gives these locks back, in any order.
+    fn give_back(&mut self, locks: &[u16]) {
+        for lock in any_order(self.rng, locks) {
+            self.put(33, 0, lock);
+        }
     }
 
     fn address(&mut self) -> u16 {
@@ -128,10 +148,15 @@ impl Script<'_> {
         self.put(18, 0, address);
     }
 
-    /// A locked section, with a further one inside it at times.
+    /// A locked section, with a further one inside it at times; or one of
+    /// several locks.
     fn section(&mut self, depth: usize) {
-        let number = self.lock_number();
-        self.put(32, 0, number);
+        let locks = if self.rng.chance(1, 4) {
+            self.rng.between(2, 3)
+        } else {
+            1
+        };
+        let taken = self.take(locks);
         for _ in 0..self.rng.below(3) {
             match self.rng.below(5) {
                 0 if depth > 0 => self.section(depth - 1),
@@ -141,17 +166,13 @@ impl Script<'_> {
                 _ => self.bump(),
             }
         }
-        // As only the count matters, another lock's number does as well.
-        let number = self.lock_number();
-        self.put(33, 0, number);
+        self.give_back(&taken);
     }
 
-    /// A wait inside one or two locks.
+    /// A wait inside one to three locks.
     fn wait(&mut self) {
-        let locks = self.rng.between(1, 2);
-        for _ in 0..locks {
-            self.put(32, 0, 0);
-        }
+        let locks = self.rng.pick(&[1, 1, 2, 3]);
+        let taken = self.take(locks);
         if self.rng.chance(1, 2) {
             self.bump();
         }
@@ -160,9 +181,7 @@ impl Script<'_> {
         if self.rng.chance(1, 2) {
             self.bump();
         }
-        for _ in 0..locks {
-            self.put(33, 0, 0);
-        }
+        self.give_back(&taken);
     }
 
     fn bare_signal(&mut self) {
@@ -176,14 +195,14 @@ impl Script<'_> {
         if self.rng.chance(1, 2) {
             return self.bare_signal();
         }
-        self.put(32, 0, 1);
+        let taken = self.take(1);
         for _ in 0..self.rng.between(1, 3) {
             self.bare_signal();
             if self.rng.chance(1, 3) {
                 self.plain();
             }
         }
-        self.put(33, 0, 1);
+        self.give_back(&taken);
     }
 
     /// A start, mostly of one that sleeps at first.
@@ -225,35 +244,62 @@ impl Script<'_> {
         }
     }
 
-    /// Something that fails with the count the block itself leads to.
+    /// Something that fails with the locks the block itself leads to.
     fn slip(&mut self) {
         self.bump();
-        match self.rng.below(4) {
-            0 => self.put(33, 0, 2),
+        match self.rng.below(6) {
+            0 => {
+                let lock = self.free_lock();
+                self.put(33, 0, lock);
+            }
             1 => {
                 let condition = self.rng.pick(&self.taste.conditions);
                 self.put(34, 0, condition);
             }
-            2 => {
-                self.put(32, 0, 3);
-                self.bump();
-                self.barrier();
+            way => self.slip_inside(way),
+        }
+    }
+
+    /// Something that fails inside a lock or two.
+    fn slip_inside(&mut self, way: usize) {
+        let locks = self.rng.between(1, 2);
+        let taken = self.take(locks);
+        self.bump();
+        match way {
+            2 => self.barrier(),
+            3 => self.put(38, 0, 0),
+            4 => {
+                let lock = self.free_lock();
+                self.put(33, 0, lock);
             }
             _ => {
-                self.put(32, 0, 4);
-                self.bump();
-                self.put(38, 0, 0);
+                let lock = self.rng.pick(&taken);
+                self.put(32, 0, lock);
             }
+        }
+    }
+
+    /// A lock that is locked, or, seldom and where there is none, any.
+    fn held_lock(&mut self) -> u16 {
+        let held = held_behind(&self.steps);
+        match held.is_empty() || self.rng.chance(1, 8) {
+            true => self.rng.below(16) as u16,
+            false => self.rng.pick(&held),
         }
     }
 
     /// Any step at all but a skip.
     fn loose(&mut self) {
-        let lock = self.lock_number();
         let condition = self.rng.pick(&self.taste.conditions);
         match self.rng.below(20) {
-            0 | 1 => self.put(32, 0, lock),
-            2 | 3 => self.put(33, 0, lock),
+            0 | 1 => {
+                let lock = self.free_lock();
+                self.put(32, 0, lock);
+            }
+            2 | 3 => {
+                let lock = self.held_lock();
+                self.put(33, 0, lock);
+            }
             4 if self.rng.chance(1, 2) => self.put(34, 0, condition),
             5 | 6 => self.bare_signal(),
             7 => self.barrier(),

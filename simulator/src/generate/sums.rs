@@ -5,6 +5,7 @@
 use crate::check::Step;
 use crate::format::{MOST_STEPS, MOST_WORKERS};
 use crate::generate::draft::{step, Draft};
+use crate::generate::locks::{another_lock, held_behind};
 use crate::generate::rng::Rng;
 use crate::generate::starts::with_sleepers;
 
@@ -141,7 +142,8 @@ impl Row<'_> {
 
     /// A step inside a lock, mostly with bytes to commit before and behind it.
     fn locked(&mut self, inside: fn(&mut Self)) {
-        self.put(32, 0, 5);
+        let lock = self.free_lock();
+        self.put(32, 0, lock);
         if self.rng.chance(3, 4) {
             self.write();
         }
@@ -149,7 +151,11 @@ impl Row<'_> {
         if self.rng.chance(3, 4) {
             self.write();
         }
-        self.put(33, 0, 5);
+        self.put(33, 0, lock);
+    }
+
+    fn free_lock(&mut self) -> u16 {
+        another_lock(self.rng, &held_behind(&self.steps))
     }
 
     fn condition(&mut self) -> u16 {
@@ -174,15 +180,18 @@ impl Row<'_> {
     /// Something that fails, so that the bytes before it are lost, at once or,
     /// with a lock that stays, in the end.
     fn slip(&mut self) {
-        match self.rng.below(5) {
-            0 => self.put(33, 0, 5),
+        let lock = self.free_lock();
+        match self.rng.below(7) {
+            0 => self.put(33, 0, lock),
             1 => self.wait(),
             way => {
-                self.put(32, 0, 5);
+                self.put(32, 0, lock);
                 self.write_some();
                 match way {
                     2 => self.put(37, 0, 1),
                     3 => self.put(38, 0, 0),
+                    4 => self.put(32, 0, lock),
+                    5 => self.put(33, 0, lock ^ 1),
                     _ => {}
                 }
             }
