@@ -5,6 +5,7 @@ pub mod batches;
 mod broadcasts;
 mod depths;
 mod full_lists;
+mod locks;
 mod operands;
 mod pages;
 mod queues;
@@ -51,6 +52,7 @@ pub fn all() -> Vec<Limit> {
         broadcasts::all(),
         depths::all(),
         full_lists::all(),
+        locks::all(),
         operands::all(),
         pages::all(),
         queues::all(),
@@ -72,6 +74,12 @@ fn memory() -> Vec<u8> {
 /// A step as often as told.
 fn times(count: usize, op: u8, number: u16) -> Vec<Step> {
     vec![step(op, 0, number); count]
+}
+
+/// So many different locks, other ones for other counts.
+fn some_locks(count: usize) -> Vec<u16> {
+    let each = |place: usize| (5 * place + 3 * count) as u16 % 16;
+    (0..count).map(each).collect()
 }
 
 fn draft(barriers: &[(u8, u16)], steps: Vec<Vec<Step>>) -> Draft {

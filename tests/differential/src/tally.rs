@@ -21,7 +21,7 @@ use limits::Limits;
 pub use reports::SUMS;
 use sleepers::Share;
 
-const OUTCOMES: [&str; 27] = [
+const OUTCOMES: [&str; 29] = [
     "lock, count 1",
     "lock, count above 1",
     "unlock, count 0",
@@ -33,7 +33,7 @@ const OUTCOMES: [&str; 27] = [
     "barrier, full at size 1",
     "barrier, full above size 1",
     "exit",
-    "unlock failed",
+    "unlock failed, none held",
     "wait failed",
     "barrier failed",
     "exit failed",
@@ -49,6 +49,8 @@ const OUTCOMES: [&str; 27] = [
     "broadcast, several woken, count above 0",
     "broadcast, seven woken, count 0",
     "broadcast, seven woken, count above 0",
+    "lock failed, being held",
+    "unlock failed, others held",
 ];
 
 const ENDS: [&str; 3] = ["going", "finished", "stuck"];
@@ -253,6 +255,8 @@ fn numbered(
 fn outcome_kind(op: u8, outcome: u8, count: u8) -> usize {
     let held = usize::from(count > 0);
     match (op, outcome) {
+        (32, 254) => 27,
+        (33, 254) if count > 0 => 28,
         (33, 254) => 11,
         (34, 254) => 12,
         (37, 254) => 13,

@@ -40,11 +40,21 @@ const START_AND_MEET: Row = &[(39, 0, 2), (37, 0, 1)];
 const SIGNAL_AND_ALL: Row = &[(32, 0, 0), (35, 0, 2), (36, 0, 2), (33, 0, 0)];
 const WAITS_AND_WAKES: Row = &[(32, 0, 0), (34, 0, 2), (36, 0, 3), (34, 0, 2), (33, 0, 0)];
 const WAKES_AND_WAITS: Row = &[(32, 0, 0), (36, 0, 2), (34, 0, 3), (35, 0, 2), (33, 0, 0)];
+const CROSSED: Row = &[(32, 0, 4), (32, 0, 9), (33, 0, 4), (33, 0, 9)];
+const NESTED: Row = &[(32, 0, 9), (32, 0, 4), (33, 0, 4), (33, 0, 9)];
+const WRONG_UNLOCK: Row = &[(32, 0, 4), (18, 0, 255), (33, 0, 9)];
+const LOCKED_TWICE: Row = &[(32, 0, 4), (18, 0, 255), (32, 0, 4)];
+const KEEPS_TWO: Row = &[(32, 0, 3), (32, 0, 4), (34, 0, 2), (33, 0, 3), (33, 0, 4)];
+const TAKES_THE_SAME: Row = &[(32, 0, 3), (35, 0, 2), (33, 0, 3)];
+const KEEPS_AND_SLIPS: Row = &[(32, 0, 3), (32, 0, 4), (34, 0, 2), (33, 0, 5)];
 
 /// Behind these turns the first of two, or of three the first two, wait in
 /// round 1.
 const ONE_WAITS: &[u8] = &[0, 1, 0, 0];
 const TWO_WAIT: &[u8] = &[0, 1, 2, 0, 0, 1, 1];
+
+/// The same where each takes two locks before it waits.
+const TWO_KEEP: &[u8] = &[0, 1, 2, 0, 0, 0, 1, 1, 1];
 
 /// The plans.
 pub fn plans() -> Vec<Tiny> {
@@ -75,6 +85,7 @@ pub fn plans() -> Vec<Tiny> {
     all.extend(triples.map(|(sizes, rows)| tiny(sizes, &rows, 8)));
     all.extend(sleeping());
     all.extend(broadcasts());
+    all.extend(names());
     all
 }
 
@@ -88,6 +99,20 @@ fn broadcasts() -> [Tiny; 5] {
         tiny(&[], &[WAITER, BROADCASTER], 12),
         tiny(&[], &[WAITS_AND_WAKES, WAKES_AND_WAITS], 12).behind(ONE_WAITS),
     ]
+}
+
+/// Plans with several locks.
+fn names() -> Vec<Tiny> {
+    let pairs = [
+        [CROSSED, NESTED],
+        [WRONG_UNLOCK, LOCKED_STORE],
+        [LOCKED_TWICE, STORE],
+        [KEEPS_TWO, TAKES_THE_SAME],
+        [KEEPS_AND_SLIPS, WAKER],
+    ];
+    let mut all: Vec<Tiny> = pairs.map(|rows| tiny(&[], &rows, 12)).into();
+    all.push(tiny(&[], &[KEEPS_TWO, KEEPS_TWO, BROADCASTER], 8).behind(TWO_KEEP));
+    all
 }
 
 /// Plans with sleepers.

@@ -4,9 +4,10 @@
 use simulator::batch::UNITS;
 use simulator::format::{LENGTH_BYTES, MOST_PLANS, RECORD_LENGTH, WORK_LENGTH};
 use simulator::generate::draft::step;
+use simulator::generate::locks::each_lock;
 use simulator::generate::{Batch, Draft, Rng};
 
-use super::{draft, refusals, times};
+use super::{draft, refusals, some_locks, times};
 
 /// A call at a limit.
 pub struct BatchLimit {
@@ -97,6 +98,7 @@ fn plans() -> Vec<Vec<u8>> {
         let store = move |page: u16| step(18, 0, 256 * page + word % 250);
         [vec![step(16, 0, word)], (0..8).map(store).collect()].concat()
     };
+    let all_locks = each_lock(32, &some_locks(16));
     let fails_late = [all_pages(7_000), times(1, 33, 0)].concat();
     let drafts = vec![
         rows(&[], &[&[]]),
@@ -117,7 +119,14 @@ fn plans() -> Vec<Vec<u8>> {
         rows(&[], &[&[(39, 0, 2), (18, 3, 4)], ADDS, ADDS]).asleep(&[1, 2]),
         draft(&[], (1..9).map(|word| all_pages(31 * word)).collect()),
         draft(&[], vec![fails_late, all_pages(9)]),
-        draft(&[], vec![times(128, 32, 15), times(128, 36, 0)]),
+        draft(
+            &[],
+            vec![
+                [all_locks.clone(), times(1, 32, 15)].concat(),
+                times(128, 36, 0),
+            ],
+        ),
+        draft(&[], vec![[all_locks, times(1, 34, 0)].concat()]),
         rows(&[], &[RACES; 8]),
         one_a_round(),
     ];

@@ -5,10 +5,11 @@
 use std::collections::VecDeque;
 
 use simulator::generate::draft::step;
+use simulator::generate::locks::each_lock;
 use simulator::generate::Draft;
 use simulator::Step;
 
-use super::{draft, played, times, Limit};
+use super::{draft, played, some_locks, times, Limit};
 
 /// The condition that is broadcast.
 const CALLED: u16 = 2;
@@ -24,7 +25,7 @@ const ORDERS: [[usize; 7]; 3] = [
 ];
 
 /// Locks around a wait or a broadcast.
-const COUNTS: [usize; 6] = [1, 2, 63, 64, 126, 127];
+const COUNTS: [usize; 6] = [1, 2, 7, 8, 15, 16];
 
 pub fn all() -> Vec<Limit> {
     let mut all = Vec::new();
@@ -210,16 +211,12 @@ fn broadcasts_by_turns(workers: u16) -> Draft {
     draft(&[], steps)
 }
 
-/// Three wait with this count and unlock as often as their steps allow, in
-/// front of a broadcast with the same count, or where that leaves no room for
-/// its unlocks with the end of the steps behind it.
+/// Three wait with so many locks, the same ones, and give them back, in front
+/// of a broadcast of one that holds them too.
 fn counted(count: usize) -> Draft {
-    let mut waits = times(count, 32, 5);
-    waits.push(step(34, 0, CALLED));
-    let mut own = times(count, 32, 5);
-    own.push(broadcast(CALLED));
-    for row in [&mut waits, &mut own] {
-        row.extend(times(count.min(128 - row.len()), 33, 6));
-    }
+    let locks = some_locks(count);
+    let around = |inside: Step| [each_lock(32, &locks), vec![inside], each_lock(33, &locks)];
+    let waits = around(step(34, 0, CALLED)).concat();
+    let own = around(broadcast(CALLED)).concat();
     draft(&[], vec![waits.clone(), waits.clone(), waits, own])
 }

@@ -1,19 +1,22 @@
-//! Counts of locks, up to the 128 that a worker's steps allow.
+//! How many locks a worker holds, up to all sixteen.
 
 use simulator::generate::draft::step;
+use simulator::generate::locks::each_lock;
 use simulator::generate::Draft;
 use simulator::Step;
 
-use super::{draft, played, times, Limit};
+use super::{draft, played, some_locks, Limit};
 
 /// Every count: failures with it, signals within it, waits that keep it,
 /// unlocks from it.
 pub fn all() -> Vec<Limit> {
-    let failing = (1..=128).map(|count| ("a failure with a count", failures(count)));
-    let waking = (1..=127).map(|count| ("signals with a count", signals(count)));
-    let waiting = (1..=127).map(|count| ("a wait with a count", waits(count)));
-    let unlocking = (63..=127).map(|count| ("unlocks from a count", unlocks(count)));
-    let plans = failing.chain(waking).chain(waiting).chain(unlocking);
+    let failing = (1..=16).map(|count| ("a failure with locks held", failures(count)));
+    let slipping = (1..=16).map(|count| ("a slip with locks held", slips(count)));
+    let waking = (1..=16).map(|count| ("signals with locks held", signals(count)));
+    let waiting = (1..=16).map(|count| ("a wait with locks held", waits(count)));
+    let unlocking = (1..=16).map(|count| ("unlocks in any order", unlocks(count)));
+    let first = failing.chain(slipping).chain(waking);
+    let plans = first.chain(waiting).chain(unlocking);
     plans
         .flat_map(|(name, draft)| played(name, &draft))
         .collect()
@@ -23,34 +26,50 @@ fn locked(count: usize, behind: &[Step]) -> Vec<Step> {
     locked_over(2 * count as u16, count, behind)
 }
 
-/// So many locks and the steps behind them. Where there is room a store stands
-/// before the last lock, which must not commit it unless it is the only one.
+/// So many locks and the steps behind them. A store stands before the last
+/// lock, which must not commit it unless it is the only one.
 fn locked_over(address: u16, count: usize, behind: &[Step]) -> Vec<Step> {
-    let mut own = times(count, 32, count as u16 % 16);
-    if own.len() + behind.len() < 128 {
-        own.insert(count - 1, step(18, 0, address));
-    }
+    let mut own = each_lock(32, &some_locks(count));
+    own.insert(count - 1, step(18, 0, address));
     own.extend_from_slice(behind);
     own
 }
 
-/// The end of the steps, an exit and a barrier with a count, and an unlock
-/// too many behind it. 128 locks leave room for the end alone.
+/// The end of the steps, an exit and a barrier with locks held, and a wait
+/// behind as many unlocks.
 fn failures(count: usize) -> Draft {
-    let room = count.min(127);
-    let mut unlocked = times(count.min(63), 32, 1);
-    unlocked.extend(times(count.min(63) + 1, 33, 15));
+    let mut free = locked(count, &each_lock(33, &some_locks(count)));
+    free.push(step(34, 0, 2));
     let steps = vec![
         locked(count, &[]),
-        locked(room, &[step(38, 0, 0)]),
-        locked(room, &[step(37, 0, 7)]),
-        unlocked,
+        locked(count, &[step(38, 0, 0)]),
+        locked(count, &[step(37, 0, 7)]),
+        free,
     ];
     draft(&[(7, 1)], steps)
 }
 
-/// A holder with a count wakes workers and keeps the token; 127 locks leave
-/// room for one step, fewer for one more, which wakes nobody. What is stored
+/// The first and the last of the locks taken once more, the unlock of a lock
+/// that is none of them, and each unlock twice, the last one with none held.
+/// With all sixteen held no unlock is wrong.
+fn slips(count: usize) -> Draft {
+    let locks = some_locks(count);
+    let (first, last) = (locks[0], locks[count - 1]);
+    let other = |lock: &u16| !locks.contains(lock);
+    let wrong = (0..16).find(other).unwrap_or(first);
+    let too_many = [each_lock(33, &locks), vec![step(33, 0, last)]].concat();
+    let at_once = [step(33, 0, first), step(33, 0, first)];
+    let steps = vec![
+        locked(count, &[step(32, 0, first)]),
+        locked(count, &[step(32, 0, last)]),
+        locked(count, &[step(33, 0, wrong)]),
+        locked(count, &too_many),
+        locked(count, &at_once),
+    ];
+    draft(&[], steps)
+}
+
+/// A holder with locks wakes workers and keeps the token. What is stored
 /// before a signal or a broadcast alone is committed by nothing else: each
 /// worker has an address of its own.
 fn signals(count: usize) -> Draft {
@@ -59,7 +78,7 @@ fn signals(count: usize) -> Draft {
     let holders: [&[u8]; 4] = [&[35, 36], &[36, 35], &[35], &[36]];
     for (ops, page) in holders.into_iter().zip(0..) {
         let wakes = ops.iter().zip(1..).map(|(&op, c)| step(op, 0, c));
-        let behind: Vec<Step> = wakes.take(128 - count).collect();
+        let behind: Vec<Step> = wakes.collect();
         workers.push(locked_over(
             256 * page + 2 * count as u16 - 1,
             count,
@@ -69,23 +88,38 @@ fn signals(count: usize) -> Draft {
     draft(&[], workers)
 }
 
-/// A worker waits with a count, is woken in the same round and unlocks as
-/// often as its steps allow; another one does so and is left waiting.
+/// A worker waits with locks held, is woken in the same round and gives them
+/// back, the first one first; a second one gives them back the other way, and
+/// a third one is left waiting.
 fn waits(count: usize) -> Draft {
-    let mut woken = locked(count, &[step(34, 0, 3)]);
-    woken.extend(times(count.min(128 - woken.len()), 33, 0));
+    let mut locks = some_locks(count);
+    let waits = locked(count, &[step(34, 0, 3)]);
+    let first = [waits.clone(), each_lock(33, &locks)].concat();
+    locks.reverse();
+    let last = [waits, each_lock(33, &locks)].concat();
     let left = locked(count, &[step(34, 0, 4)]);
-    let waker = vec![step(35, 0, 3), step(36, 0, 5)];
-    draft(&[], vec![woken, left, waker])
+    let waker = vec![step(35, 0, 3), step(36, 0, 3)];
+    draft(&[], vec![first, last, left, waker])
 }
 
-/// So many locks, a store and unlocks in the rest of the 128 steps; a count
-/// that is left in the end loses the stored bytes. 127 leave no room for it.
+/// So many locks, and unlocks in several orders with a store behind each; the
+/// last one commits what the others left. One worker keeps a lock, and loses
+/// the stored bytes.
 fn unlocks(count: usize) -> Draft {
-    let mut own = times(count, 32, 9);
-    if count < 127 {
-        own.push(step(18, 0, 1_000));
-    }
-    own.extend(times(count.min(128 - own.len()), 33, 9));
-    draft(&[], vec![vec![step(35, 0, 0)], own])
+    let locks = some_locks(count);
+    let row = |(worker, order): (u16, Vec<u16>)| {
+        let mut own = each_lock(32, &locks);
+        for (place, lock) in order.into_iter().enumerate() {
+            own.push(step(16, 0, 0x101 * (place as u16 + 1)));
+            own.push(step(18, 0, 256 * worker + 2 * place as u16));
+            own.push(step(33, 0, lock));
+        }
+        own
+    };
+    let reversed = locks.iter().rev().copied().collect();
+    let mut rotated = locks.clone();
+    rotated.rotate_left(count / 2);
+    let kept = locks[..count - 1].to_vec();
+    let orders = [locks.clone(), reversed, rotated, kept];
+    draft(&[], (0..).zip(orders).map(row).collect())
 }

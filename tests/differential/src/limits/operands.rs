@@ -66,10 +66,12 @@ fn too_large(workers: usize) -> Draft {
     draft(&[(3, 8)], steps)
 }
 
-/// A lock and its unlock, one inside the other, and an unlock that fails.
+/// A lock and its unlock, a lock that fails, and unlocks that fail, behind the
+/// right one and alone.
 fn lock(number: u16) -> Draft {
-    let section = [times(2, 32, number), times(3, 33, number)].concat();
-    draft(&[], vec![section, times(1, 33, number)])
+    let section = [times(1, 32, number), times(2, 33, number)].concat();
+    let steps = vec![section, times(2, 32, number), times(1, 33, number)];
+    draft(&[], steps)
 }
 
 /// A wait without a count and a barrier with one.

@@ -2,10 +2,11 @@
 //! from a start, every order in which workers come into the next list.
 
 use simulator::generate::draft::step;
+use simulator::generate::locks::each_lock;
 use simulator::generate::Draft;
 use simulator::Step;
 
-use super::{draft, played, times, Limit};
+use super::{draft, played, some_locks, times, Limit};
 
 /// All workers that may sleep.
 const OTHERS: [u8; 7] = [1, 2, 3, 4, 5, 6, 7];
@@ -18,8 +19,8 @@ const ORDERS: [[u16; 7]; 3] = [
 ];
 
 pub fn all() -> Vec<Limit> {
-    let mut all: Vec<Limit> = (0..128)
-        .flat_map(|count| played("a start with a count", &counted(count)))
+    let mut all: Vec<Limit> = (0..=16)
+        .flat_map(|count| played("a start with locks held", &counted(count)))
         .collect();
     for caller in 0..8 {
         all.extend(ORDERS.into_iter().flat_map(|order| by(caller, order)));
@@ -39,17 +40,16 @@ fn start(worker: u16) -> Step {
     step(39, 0, worker)
 }
 
-/// Two workers start a third one with this count, which does the same with
-/// the first; where there is room the first one does so again behind a store.
+/// Two workers start a third one with so many locks held, which does the same
+/// with the first; the first one does so again behind a store.
 fn counted(count: usize) -> Draft {
     let row = |target: u16| {
-        let mut own = times(count, 32, count as u16 % 16);
+        let mut own = each_lock(32, &some_locks(count));
         own.push(start(target));
         own
     };
     let mut first = row(2);
     first.extend([step(18, 3, 2 * count as u16), start(2)]);
-    first.truncate(128);
     draft(&[], vec![first, row(2), row(0)]).asleep(&[2])
 }
 
@@ -117,6 +117,7 @@ fn found(held: bool) -> Draft {
 /// every synchronising step, the end, and a barrier that is not full.
 fn ways_on(way: u8, held: bool) -> Vec<Limit> {
     let on = match way {
+        1 => vec![step(33, 0, 2)],
         0..5 => vec![step(32 + way, 0, 1)],
         5 => vec![step(37, 0, 0)],
         6 => vec![step(38, 0, 0)],
@@ -132,7 +133,7 @@ fn ways_on(way: u8, held: bool) -> Vec<Limit> {
         own.extend(&on);
         let mut behind = own.clone();
         behind.extend([step(18, 0, 500), step(32, 0, 9), step(18, 0, 700)]);
-        behind.extend(times(2, 33, 9));
+        behind.extend([step(33, 0, 9), step(33, 0, 2)]);
         // The end of the steps has nothing behind it.
         let rows = if way == 8 {
             vec![own]

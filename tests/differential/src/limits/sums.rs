@@ -94,6 +94,8 @@ fn failing(writes: &[Step]) -> Vec<Case> {
     let op = |op: u8, number: u16| [step(op, 0, number)];
     vec![
         case(&[writes, &op(33, 4)], &[]),
+        case(&[&lock, writes, &op(33, 5)], &[]),
+        case(&[&lock, writes, &op(32, 4)], &[]),
         case(&[writes, &op(34, 0)], &[]),
         case(&[&lock, writes, &op(37, 1)], &[]),
         case(&[&lock, writes, &op(38, 0)], &[]),

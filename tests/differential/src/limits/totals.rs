@@ -2,10 +2,11 @@
 //! greatest that can be.
 
 use simulator::generate::draft::step;
+use simulator::generate::locks::each_lock;
 use simulator::generate::Draft;
 use simulator::{Machine, Step};
 
-use super::{draft, memory, moving_turns, plan_of, played, rising, times, Limit};
+use super::{draft, memory, moving_turns, plan_of, played, rising, some_locks, times, Limit};
 
 /// Where the report has moving turns, rounds completed and log records.
 const MOVES: usize = 2;
@@ -14,7 +15,12 @@ const RECORDS: usize = 6;
 
 pub fn all() -> Vec<Limit> {
     let signals = draft(&[], vec![times(128, 36, 0); 8]);
-    let locks = draft(&[], vec![times(128, 32, 15); 8]);
+    let nested = [
+        each_lock(32, &some_locks(16)),
+        each_lock(33, &some_locks(16)),
+    ]
+    .concat();
+    let locks = draft(&[], vec![nested.repeat(4); 8]);
     let relay = relay();
     let chain = chain();
     let mut all = Vec::new();
@@ -121,7 +127,7 @@ fn kept_over_rounds() -> Draft {
         }
         own.extend(store(worker));
         match worker {
-            0 => own.extend(times(2, 33, 3)),
+            0 => own.extend([step(33, 0, 1), step(33, 0, 2)]),
             7 => own.push(step(35, 0, 0)),
             _ => own.push(step(37, 0, worker)),
         }

@@ -8,7 +8,7 @@ use super::reports::{note_number, ROUNDS};
 
 /// What can come of a step, and the numbers it can have. The first worker
 /// never sleeps.
-const KINDS: [(&str, Range<usize>); 14] = [
+const KINDS: [(&str, Range<usize>); 15] = [
     ("lock", 0..16),
     ("unlock", 0..16),
     ("unlock failed", 0..16),
@@ -23,13 +23,14 @@ const KINDS: [(&str, Range<usize>); 14] = [
     ("barrier failed", 0..8),
     ("start of a sleeper", 1..8),
     ("start of no sleeper", 0..8),
+    ("lock failed", 0..16),
 ];
 
 /// The rows.
-pub const ROWS: [Row; 2] = [
+pub const ROWS: [Row; 3] = [
     Row {
         name: "outcome by number",
-        members: 135,
+        members: 151,
         named: kind_and_number,
     },
     Row {
@@ -37,7 +38,18 @@ pub const ROWS: [Row; 2] = [
         members: ROUNDS.len(),
         named: |place| ROUNDS[place].to_string(),
     },
+    Row {
+        name: "outcome of a lock or an unlock",
+        members: 2 * LOCKS,
+        named: |place| match place < LOCKS {
+            true => format!("lock, {}", place + 1),
+            false => format!("unlock, {}", place - LOCKS),
+        },
+    },
 ];
+
+/// A lock leaves 1 to 16 locked, an unlock 0 to 15.
+const LOCKS: usize = 16;
 
 fn kind_and_number(mut place: usize) -> String {
     for (kind, numbers) in KINDS {
@@ -52,6 +64,7 @@ fn kind_and_number(mut place: usize) -> String {
 /// Which of the kinds a record is; a full barrier and an exit are none.
 fn kind_of(op: u8, outcome: u8) -> Option<usize> {
     match (op, outcome) {
+        (32, 254) => Some(14),
         (32, _) => Some(0),
         (33, 254) => Some(2),
         (33, _) => Some(1),
@@ -79,4 +92,9 @@ pub fn note(board: &mut Board, record: &[u8]) {
     }
     let round = u16::from_le_bytes([record[2], record[3]]);
     note_number(board, 1, &ROUNDS, round);
+    match (record[5], usize::from(record[7])) {
+        (32, count @ 1..=LOCKS) => board.count(2, count - 1),
+        (33, count @ 0..LOCKS) => board.count(2, LOCKS + count),
+        _ => {}
+    }
 }
