@@ -84,7 +84,8 @@ fn memory_sum(memory: &[u8]) -> u64 {
 }
 
 /// The paper's cases, those of its first two requests, the borders, runs of
-/// every kind, refused files, and behind them the plans of the third request.
+/// every kind, refused files, and behind them the plans of the third request
+/// and of the fifth.
 fn files(rng: &mut Rng) -> Vec<Vec<u8>> {
     let mut files = Vec::new();
     files.extend(cases());
@@ -100,6 +101,9 @@ fn files(rng: &mut Rng) -> Vec<Vec<u8>> {
     files.extend(refused(rng));
     files.extend(sums());
     files.extend((0..7).map(|_| plan(rng, PlanKind::Sums).file()));
+    files.extend(names());
+    files.extend((0..7).map(|_| plan(rng, PlanKind::Names).file()));
+    files.extend((0..3).map(|_| plan(rng, PlanKind::Deep).file()));
     files
 }
 
@@ -287,7 +291,7 @@ fn broadcasts_on_memory() -> [Vec<u8>; 4] {
     let adds = [load, &[(19, 0, 1), (18, 0, 0), UNLOCK]].concat();
     let free = [ONE, &[ALL], TWO].concat();
     let locked = [&[LOCK], ONE, &[ALL], TWO, &[UNLOCK]].concat();
-    let twice: Row = &[LOCK, LOCK, WAIT, UNLOCK, UNLOCK];
+    let twice: Row = &[LOCK, (32, 0, 1), WAIT, UNLOCK, (33, 0, 1)];
     let starts: Row = &[(39, 0, 4), ALL];
     let plans: [(&[Row], &[u8]); 4] = [
         (&[&doubles, &adds, &doubles, &free], &[]),
@@ -334,6 +338,90 @@ fn sums() -> Vec<Vec<u8>> {
     files
 }
 
+/// Locks of the plans of the fifth request.
+const TAKE_3: (u8, u8, u16) = (32, 0, 3);
+const TAKE_9: (u8, u8, u16) = (32, 0, 9);
+const GIVE_3: (u8, u8, u16) = (33, 0, 3);
+const GIVE_9: (u8, u8, u16) = (33, 0, 9);
+
+/// Plans of the fifth request, of one worker: two locks given back in either
+/// order, one of them taken again, the wrong one and the same one, with bytes
+/// that are lost, and what fails with two locks. Then those of several workers.
+fn names() -> Vec<Vec<u8>> {
+    let store: Row = &[(16, 0, 0x0305), (18, 0, 6)];
+    let ways: [Row; 9] = [
+        &[TAKE_9, GIVE_3, (18, 0, 8), GIVE_9],
+        &[TAKE_9, GIVE_9, (18, 0, 8), GIVE_3],
+        &[
+            TAKE_9, GIVE_9, TAKE_9, GIVE_3, SIGNAL, GIVE_9, TAKE_3, GIVE_3,
+        ],
+        &[GIVE_9, (18, 0, 8)],
+        &[TAKE_3, (18, 0, 8)],
+        &[TAKE_9, SIGNAL, (18, 0, 8), TAKE_3],
+        &[TAKE_9, GIVE_3, GIVE_3],
+        &[TAKE_9, (37, 0, 0)],
+        &[TAKE_9, ALL, (18, 0, 8), (38, 0, 0)],
+    ];
+    let alone = |way: Row| sleeping(&[&[&[TAKE_3], store, way].concat()], &[]).file();
+    let mut files: Vec<Vec<u8>> = ways.into_iter().map(alone).collect();
+    files.extend(names_of_several());
+    files.extend(all_sixteen());
+    files
+}
+
+/// Waits with locks, given back in either order behind them, or with what fails
+/// there; the same lock held by several; nobody gives back another's lock or is
+/// kept from it; a started worker holds nothing of its starter's.
+fn names_of_several() -> Vec<Vec<u8>> {
+    let keeps: Row = &[TAKE_3, TAKE_9, WAIT, GIVE_3, (18, 1, 4), GIVE_9];
+    let back: Row = &[TAKE_9, TAKE_3, WAIT, GIVE_3, (18, 1, 4), GIVE_9];
+    let same: Row = &[TAKE_3, TAKE_9, WAIT, (18, 0, 6), TAKE_3];
+    let wrong: Row = &[TAKE_3, TAKE_9, WAIT, (18, 0, 6), UNLOCK];
+    let more: Row = &[TAKE_3, TAKE_9, WAIT, LOCK, GIVE_3, UNLOCK, GIVE_9];
+    let one_more: Row = &[TAKE_3, WAIT, TAKE_9, GIVE_3, GIVE_9];
+    let takes: Row = &[TAKE_3, SIGNAL, (18, 0, 8), GIVE_3, GIVE_3];
+    let starts: Row = &[TAKE_3, (39, 0, 1), GIVE_3];
+    let plans: [(&[Row], &[u8]); 9] = [
+        (&[keeps, &[SIGNAL]], &[]),
+        (&[keeps, back, &[ALL], &[TAKE_3, GIVE_3]], &[]),
+        (&[same, wrong, more, &[ALL]], &[]),
+        (
+            &[
+                &[TAKE_3, WAIT, TAKE_3],
+                &[TAKE_3, WAIT, GIVE_9],
+                one_more,
+                &[ALL],
+            ],
+            &[],
+        ),
+        (&[keeps, takes], &[]),
+        (&[keeps, &[GIVE_3], &[ALL]], &[]),
+        (&[keeps, &[TAKE_9, GIVE_3], &[ALL]], &[]),
+        (&[&[TAKE_3, TAKE_3], &[TAKE_3, GIVE_3]], &[]),
+        (&[starts, &[GIVE_3]], &[1]),
+    ];
+    plans
+        .map(|(rows, sleepers)| sleeping(rows, sleepers).file())
+        .into()
+}
+
+/// All locks, given back the first one first and the last one first, and one of
+/// them taken once more; and a wait with all of them.
+fn all_sixteen() -> [Vec<u8>; 4] {
+    let takes = (0..16).map(|lock| (32, 0, lock));
+    let takes: Vec<(u8, u8, u16)> = takes.collect();
+    let gives = (0..16).map(|lock| (33, 0, lock));
+    let first: Vec<(u8, u8, u16)> = gives.clone().collect();
+    let last: Vec<(u8, u8, u16)> = gives.rev().collect();
+    let waits = [&takes[..], &[WAIT], &first].concat();
+    [
+        sleeping(&[&[&takes[..], &first].concat()], &[]).file(),
+        sleeping(&[&[&takes[..], &last].concat()], &[]).file(),
+        sleeping(&[&[&takes[..], &[TAKE_9]].concat()], &[]).file(),
+        sleeping(&[&waits, &[&takes[..], &[SIGNAL], &last].concat()], &[]).file(),
+    ]
+}
+
 /// Case 11: what just passes and what just does not.
 fn borders(rng: &mut Rng) -> Vec<Vec<u8>> {
     let one = |row: Row| Draft::from_rows(&[], &[row]).file();
@@ -375,7 +463,7 @@ fn refused_operands() -> Vec<Vec<u8>> {
     let synchronising: Row = &[
         (32, 0, 15),
         (34, 0, 7),
-        (33, 0, 0),
+        (33, 0, 15),
         (35, 0, 7),
         (36, 0, 0),
         (37, 0, 4),
@@ -405,7 +493,7 @@ fn refused(rng: &mut Rng) -> Vec<Vec<u8>> {
         &[(1, 2), (4, 8)],
         &[
             &[(16, 0, 1), (22, 0, 1), (37, 0, 1)],
-            &[(18, 3, 2_046), (32, 0, 15), (33, 0, 0), (38, 0, 0)],
+            &[(18, 3, 2_046), (32, 0, 15), (33, 0, 15), (38, 0, 0)],
             &[(39, 0, 1)],
         ],
     )
@@ -498,9 +586,21 @@ fn of_commits(name: &str) -> bool {
     rises || written.iter().any(|row| name.starts_with(row))
 }
 
+/// How many locks are held behind each lock and unlock, what a lock or an
+/// unlock comes to, and what of it others hold.
+fn of_locks(name: &str) -> bool {
+    let rows = [
+        "lock, locks held behind it",
+        "unlock, locks held behind it",
+        "unlock with several locks held",
+        "behind a wait with locks kept",
+    ];
+    rows.iter().any(|row| name.starts_with(row))
+}
+
 /// Every op executed, every refusal of a file, every rule with its outcomes,
 /// every end and every fate that a plan that has ended can have, every step that
-/// commits and what its bytes come upon.
+/// commits and what its bytes come upon, and what becomes of locks.
 fn nothing_missing(files: &[Vec<u8>]) -> Result<(), String> {
     let mut seen = Seen::new();
     for file in files {
@@ -523,7 +623,7 @@ fn nothing_missing(files: &[Vec<u8>]) -> Result<(), String> {
         .limits
         .missing()
         .into_iter()
-        .find(|name| of_commits(name))
+        .find(|name| of_commits(name) || of_locks(name))
     {
         return Err(format!("never came up: {name}"));
     }
@@ -532,12 +632,16 @@ fn nothing_missing(files: &[Vec<u8>]) -> Result<(), String> {
 }
 
 /// What some plan must show.
-const WANTED: [Rule; 31] = [
+const WANTED: [Rule; 35] = [
     (32, false, 1),
     (32, true, 2),
+    (32, true, 16),
+    (32, true, 254),
     (33, true, 0),
     (33, true, 1),
     (33, false, 254),
+    (33, true, 15),
+    (33, true, 254),
     (34, true, 255),
     (34, false, 254),
     (35, false, 0),
