@@ -4,7 +4,7 @@
 # tests/fuzz.sh replay [ARCHIVE] [INCLUDE]
 # tests/fuzz.sh run SECONDS [ARCHIVE] [INCLUDE]
 # tests/fuzz.sh keep [ARCHIVE] [INCLUDE]    keep those new inputs that add coverage
-# tests/fuzz.sh seeds                       have the simulator write its inputs into the kept ones: sleepers, starts, broadcasts, words of several workers, several plans
+# tests/fuzz.sh seeds                       have the simulator write its inputs into the kept ones: sleepers, starts, broadcasts, words of several workers, several plans, locks by name
 #
 # ARCHIVE and INCLUDE as for tests/hosts.sh. Running and keeping need clang
 # with libFuzzer. New inputs go to build/fuzz/found. tests/fuzz/corpus.sum has

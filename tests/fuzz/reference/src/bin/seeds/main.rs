@@ -1,5 +1,5 @@
 //! Writes inputs of the fuzz target with sleepers, starts, broadcasts, words
-//! that several workers write, and several plans.
+//! that several workers write, several plans, and locks by name.
 //!
 //! `seeds FOLDER`. tests/fuzz/fuzz.c says how an input is laid out. The inputs
 //! are the same each time: `start-N`, `broadcast-N` and `sum-N` are plans with
@@ -7,9 +7,11 @@
 //! `long-4` a file of the greatest length and `long-5` one with a record more,
 //! `made-starts`, `made-sleepers` and `made-broadcasts` are steps from which
 //! the target makes a file, `length-*-4` plans with a buffer four bytes short,
-//! `batch-N` several plans.
+//! `batch-N` several plans, `lock-N` plans about the locks that a worker holds,
+//! and `made-names` steps with some.
 
 mod batches;
+mod locks;
 
 use std::path::Path;
 use std::process::ExitCode;
@@ -67,6 +69,8 @@ fn write_all(folder: &Path) -> std::io::Result<usize> {
     all.extend(numbered("commit", commits()));
     all.extend(short_buffers());
     all.extend(numbered("batch", batches::all()));
+    all.extend(numbered("lock", locks::all()));
+    all.push(locks::made());
     for (name, bytes) in &all {
         fs::write(folder.join(name), bytes)?;
     }
