@@ -35,7 +35,7 @@ pub fn all() -> Vec<Vec<u8>> {
         let kind = rng.pick(&[PlanKind::Names, PlanKind::Names, PlanKind::Deep]);
         let draft = plan(&mut rng, kind);
         let file = draft.file();
-        if file.len() > 70 * RECORD_LENGTH || slips(&file) != (all.len() % 3 == 0) {
+        if file.len() > 70 * RECORD_LENGTH || slips(&file) != all.len().is_multiple_of(3) {
             continue;
         }
         let list = match all.len() % 2 {
