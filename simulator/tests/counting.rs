@@ -23,8 +23,8 @@ fn slips(log: &[u8]) -> bool {
     log.chunks_exact(LOG_RECORD_LENGTH).any(slip)
 }
 
-/// How many of the plans slip, how many of these differ by counts, and how
-/// many that do not slip lock at all.
+/// How many of the plans slip, how many of these leave something else by
+/// counts, and how many do not slip though they lock, one lock or several.
 #[derive(Debug, Default)]
 struct Seen {
     slip: usize,

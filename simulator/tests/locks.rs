@@ -4,8 +4,9 @@
 mod common;
 
 use common::{end_of, front, report, run_call, Row};
-use simulator::format::MEMORY_LENGTH;
+use simulator::format::{MEMORY_LENGTH, REPORT_LENGTH};
 use simulator::generate::draft::Draft;
+use simulator::generate::{Batch, Rng};
 use simulator::listing::listing_turns;
 use simulator::{check, listing, Machine, Outcome};
 
@@ -329,6 +330,23 @@ fn wakings_and_starts_run_on_while_any_lock_is_held() {
     let text = "1 0 32 6 1\n1 0 32 7 2\n1 0 35 0 255\n1 0 33 6 1\n1 0 36 0 0\n1 0 39 1 1\n\
                 1 0 33 7 0\n2 1 33 7 254\n2 0 36 0 0\n3 0 38 0 255\nfinished 14\n";
     lists(&plan, text, report([1, 2], [14, 3, 10], &[1, 2]));
+}
+
+#[test]
+fn each_plan_of_a_call_begins_without_locks() {
+    // The first plan ends with lock 3 held, by one that waits.
+    let waits: Row = &[(32, 0, 3), (34, 0, 0)];
+    let takes: Row = &[(32, 0, 3), (33, 0, 3)];
+    let files = [waits, takes, waits].map(|row| draft(&[row]).file());
+    let mut call = Batch::of(&mut Rng::new(60), &files);
+    assert_eq!(call.run(), 0);
+    let fronts: Vec<&[u8]> = call.lent[2]
+        .chunks_exact(REPORT_LENGTH)
+        .map(|bytes| &bytes[..16])
+        .collect();
+    let stuck = report([2, 1], [3, 1, 2], &[3]);
+    let finished = report([1, 1], [5, 2, 3], &[1]);
+    assert_eq!(fronts, [stuck, finished, stuck]);
 }
 
 #[test]
