@@ -2,13 +2,13 @@
 -- Assumes nothing.
 use Prim.Native.Nat.{ℕ, _≤_}
 use native.Mathlib.Omega.{arith}
-use borrow.Author.Tests.{eq-eqb, ne-eqb}
 use mathlib.Core.Path.{_≡_, refl, ap, sym, _∙_}
 use mathlib.Core.List.{List, [], _∷_, _++_, append-nil}
 use lib.Dec.{eqb}
 use lib.ListN.{length, getD, set, drop}
 use Rattle.protocol.specs.Rounds as rounds
 use Rattle.protocol.specs.Rounds.{without, broadcastRule}
+use Rattle.locks.specs.Set.{Shows}
 use Rattle.queue.specs.declared.Queue.{Queue}
 use Rattle.queue.specs.List.{listOf, Holds, setAll}
 use Rattle.queue.proofs.Picked.{length-keep}
@@ -18,6 +18,7 @@ use Rattle.decisions.specs.declared.lists.Lists.{Lists}
 use Rattle.rules.specs.declared.ruling.Uncommitted.the-variants.{Committed}
 use Rattle.rules.specs.Codes.{conditionCode}
 use Rattle.rules.specs.Rules.{found}
+use Rattle.rules.proofs.Rulings.{held-none, held-some}
 use Rattle.decisions.specs.Waking.{AllWoken, HolderLists}
 use Rattle.decisions.specs.Deciding.{CarriedOut}
 use Rattle.decisions.proofs.Freed.{settled}
@@ -41,7 +42,7 @@ abbrev queuedOn : Lists → List ℕ → ℕ → List ℕ
 queuedOn lists fates condition = found fates (listOf (lists .waiting)) (conditionCode condition)
 
 -- the ruling, by where the holder goes
-abbrev going : ℕ → List ℕ → rounds.Goes → rounds.Ruling
+abbrev going : List ℕ → List ℕ → rounds.Goes → rounds.Ruling
 going held queued goes = rounds.ruling rounds.committed held goes queued [] (length queued)
 
 module _ {lists : Lists} {fates : List ℕ} (condition : ℕ) {h : ℕ} (b : HolderLists h lists fates) {r : Roused} {fates′ : List ℕ}
@@ -57,26 +58,26 @@ module _ {lists : Lists} {fates : List ℕ} (condition : ℕ) {h : ℕ} (b : Hol
   wait-on : Holds (r .left) (without (queuedOn lists fates condition ++ []) (listOf (lists .waiting)) ++ [])
   wait-on = rw (append-nil (queuedOn lists fates condition), append-nil (without (queuedOn lists fates condition) (listOf (lists .waiting)))) (all .left)
 
-  pub gives-up : {held : ℕ} → held ≡ 0 → {later : Queue} → Holds later (listOf (lists .next) ++ (h ∷ []))
-      → CarriedOut lists fates (broadcastRule (queuedOn lists fates condition) held) h (decision held outcome behind later (r .left)) (set fates′ h 0)
-  gives-up {held} e joined =
-      rw (eq-eqb held 0 e)
+  pub gives-up : {held : ℕ} → held ≡ 0 → (locks : List ℕ) → Shows held locks → {later : Queue} → Holds later (listOf (lists .next) ++ (h ∷ []))
+      → CarriedOut lists fates (broadcastRule (queuedOn lists fates condition) locks) h (decision held outcome behind later (r .left)) (set fates′ h 0)
+  gives-up {held} e locks s joined =
+      rw (held-none locks s e)
       record {
         bytes = refl;
-        held = refl;
+        held = s;
         outcome = counted ∙ ap length (all .woken .list);
         moved = record { list = in-front; next = joined; waiting = wait-on };
-        settled = settled fates (going held (queuedOn lists fates condition) rounds.gives) h fates′ 0 (b .size) (b .holder) freed refl;
+        settled = settled fates (going locks (queuedOn lists fates condition) rounds.gives) h fates′ 0 (b .size) (b .holder) freed refl;
       }
 
-  pub runs-on : {held : ℕ} → (held ≡ 0 → ⊥) → {here : Queue} → Holds here (h ∷ listOf behind)
-      → CarriedOut lists fates (broadcastRule (queuedOn lists fates condition) held) h (decision held outcome here (lists .next) (r .left)) (set fates′ h 0)
-  runs-on {held} n first =
-      rw (ne-eqb held 0 n)
+  pub runs-on : {held : ℕ} → (held ≡ 0 → ⊥) → (locks : List ℕ) → Shows held locks → {here : Queue} → Holds here (h ∷ listOf behind)
+      → CarriedOut lists fates (broadcastRule (queuedOn lists fates condition) locks) h (decision held outcome here (lists .next) (r .left)) (set fates′ h 0)
+  runs-on {held} n locks s first =
+      rw (held-some locks s n)
       record {
         bytes = refl;
-        held = refl;
+        held = s;
         outcome = counted ∙ ap length (all .woken .list);
         moved = record { list = rw (in-front .list) at first; next = record { good = b .next; list = sym (append-nil (listOf (lists .next))) }; waiting = wait-on };
-        settled = settled fates (going held (queuedOn lists fates condition) rounds.keeps) h fates′ 0 (b .size) (b .holder) freed refl;
+        settled = settled fates (going locks (queuedOn lists fates condition) rounds.keeps) h fates′ 0 (b .size) (b .holder) freed refl;
       }

@@ -5,6 +5,7 @@ use mathlib.Core.List.{List}
 use lib.ListN.{length}
 use Rattle.protocol.specs.Format.{workersLimit}
 use Rattle.protocol.specs.Rounds as rounds
+use Rattle.locks.specs.Set.{Shows}
 use Rattle.queue.specs.List.{listOf}
 use Rattle.decisions.specs.declared.decision.Decision.{Decision}
 use Rattle.decisions.specs.declared.lists.Lists.{Lists}
@@ -25,13 +26,13 @@ pub record Deciding (op number h held : ℕ) (lists : Lists) (fates : List ℕ) 
 -- a ruling of the definitions, as a decision, with the lists and the fates after it
 pub record CarriedOut (lists : Lists) (fates : List ℕ) (is : rounds.Ruling) (h : ℕ) (d : Decision) (fates′ : List ℕ) : Type 0 where
   pub bytes : uncommittedOf (d .bytes) ≡ is .bytes
-  pub held : d .held ≡ is .held
+  pub held : Shows (d .held) (is .held)
   pub outcome : d .outcome ≡ is .outcome
   pub moved : ListsMoved lists is h (d .lists)
   pub settled : FatesSettled fates is h fates′
 
--- the ruling of the definitions is carried out
-pub record Decided (op number h held : ℕ) (sizes : List ℕ) (lists : Lists) (fates : List ℕ) (d : Decision) (fates′ : List ℕ) : Type 0 where
+-- the ruling of the definitions for a holder of these locks is carried out
+pub record Decided (op number h : ℕ) (locks sizes : List ℕ) (lists : Lists) (fates : List ℕ) (d : Decision) (fates′ : List ℕ) : Type 0 where
   pub is : rounds.Ruling
-  pub ruled : RuledBy op number held sizes (lists .waiting) fates is
+  pub ruled : RuledBy op number locks sizes (lists .waiting) fates is
   pub carried : CarriedOut lists fates is h d fates′

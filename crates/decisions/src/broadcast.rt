@@ -7,9 +7,11 @@ use format::fates::ON_CONDITION;
 use format::limits::WORKERS_LIMIT;
 use queue::Queue;
 use rules::ruling::Uncommitted;
-ghost use Prim.Native.Nat.{_≤_};
+ghost use Prim.Native.Nat.{ℕ, _≤_};
+ghost use mathlib.Core.List.{List};
 ghost use Rattle.protocol.specs.Format.{lockLimit};
 ghost use Rattle.protocol.specs.Rounds.{broadcastRule};
+ghost use Rattle.locks.specs.Set.{Shows};
 ghost use Rattle.queue.specs.List.{listOf};
 ghost use Rattle.rules.specs.Codes.{conditionCode};
 ghost use Rattle.rules.specs.Rules.{found};
@@ -53,7 +55,8 @@ pub fn broadcast(
     fates: &mut [u64; WORKERS_LIMIT],
 ) -> Decision
     requires { ⌜ (condition ≤ lockLimit) × HolderLists h lists (now fates) ⌝ }
-    ensures { λ d. ⌜ CarriedOut lists (now (fates .entry)) (broadcastRule (found (now (fates .entry)) (listOf (lists .waiting)) (conditionCode condition)) held) h d (now (fates .exit)) ⌝ }
+    ensures { λ d. ⌜ ((locks : List ℕ) → Shows held locks
+        → CarriedOut lists (now (fates .entry)) (broadcastRule (found (now (fates .entry)) (listOf (lists .waiting)) (conditionCode condition)) locks) h d (now (fates .exit))) ⌝ }
 {
     let list = lists.list;
     let next = lists.next;

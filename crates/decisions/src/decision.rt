@@ -1,4 +1,4 @@
-// The holder's synchronising step, decided: what becomes of its bytes and its count, the lists and the fates after it, and its outcome.
+// The holder's synchronising step, decided: what becomes of its bytes and its locks, the lists and the fates after it, and its outcome.
 use crate::broadcast::broadcast;
 use crate::fates::settle_fates;
 use crate::lists::Lists;
@@ -9,6 +9,9 @@ use format::limits::WORKERS_LIMIT;
 use format::ops;
 use rules::ruling::Uncommitted;
 use rules::ruling::rule;
+ghost use Prim.Native.Nat.{ℕ};
+ghost use mathlib.Core.List.{List};
+ghost use Rattle.locks.specs.Set.{Shows};
 ghost use Rattle.decisions.specs.Deciding.{Deciding, Decided};
 
 pub struct Decision {
@@ -29,7 +32,7 @@ pub fn decide(
     fates: &mut [u64; WORKERS_LIMIT],
 ) -> Decision
     requires { ⌜ Deciding op number h held lists (now fates) ⌝ }
-    ensures { λ d. ⌜ Decided op number h held (now (sizes .entry)) lists (now (fates .entry)) d (now (fates .exit)) ⌝ }
+    ensures { λ d. ⌜ ((locks : List ℕ) → Shows held locks → Decided op number h locks (now (sizes .entry)) lists (now (fates .entry)) d (now (fates .exit))) ⌝ }
 {
     if op == ops::BROADCAST {
         return broadcast(number as u64, h, held, lists, fates);

@@ -6,8 +6,8 @@ use rules::ruling::Goes;
 use rules::ruling::Ruling;
 ghost use mathlib.Core.Bool.{_||_};
 ghost use mathlib.Core.Path.{_≡_};
-ghost use mathlib.Core.List.{_++_};
-ghost use Prim.Native.Nat.{_<_};
+ghost use mathlib.Core.List.{List, _++_};
+ghost use Prim.Native.Nat.{ℕ, _<_};
 ghost use lib.ListN.{length};
 ghost use Rattle.protocol.specs.Format.{workersLimit};
 ghost use Rattle.queue.specs.List.{listOf, Good, Below, setAll};
@@ -67,7 +67,7 @@ fn free_moved(
 // Those whom the step moves wait or sleep no more, and the holder h has its new fate.
 pub fn settle_fates(fates: &mut [u64; WORKERS_LIMIT], r: Ruling, h: usize)
     requires { ⌜ (length (now fates) ≡ workersLimit) × (h < workersLimit) × Coded (r .goes) × Freeing (r .wakes) (r .joins) (r .starts) (r .queued) ⌝ }
-    ensures { λ u. ⌜ FatesSettled (now (fates .entry)) (rulingOf r) h (now (fates .exit)) ⌝ }
+    ensures { λ u. ⌜ ((locks : List ℕ) → FatesSettled (now (fates .entry)) (rulingOf r locks) h (now (fates .exit))) ⌝ }
 {
     let queued = r.queued;
     let goes = r.goes;

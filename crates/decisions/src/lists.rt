@@ -6,8 +6,8 @@ use rules::ruling::Goes;
 use rules::ruling::Ruling;
 ghost use mathlib.Core.Bool.{true, _||_};
 ghost use mathlib.Core.Path.{_≡_};
-ghost use mathlib.Core.List.{_++_};
-ghost use Prim.Native.Nat.{_+_, _≤_, _<_};
+ghost use mathlib.Core.List.{List, _++_};
+ghost use Prim.Native.Nat.{ℕ, _+_, _≤_, _<_};
 ghost use lib.ListN.{length, drop};
 ghost use Rattle.protocol.specs.Format.{workersLimit};
 ghost use Rattle.protocol.specs.Rounds.{staysIn, joinsNext, joinsWaiting, without};
@@ -119,7 +119,7 @@ fn wait_last(waiting: Queue, goes: Goes, h: u64) -> Queue
 // The three lists after the holder h's step. The key is the code of those who wait at the step's barrier.
 pub fn moved(lists: Lists, r: Ruling, h: u64, fates: &[u64; WORKERS_LIMIT], code: u64) -> Lists
     requires { ⌜ ListsMoving lists r h (now fates) code ⌝ }
-    ensures { λ after. ⌜ ListsMoved lists (rulingOf r) h after ⌝ }
+    ensures { λ after. ⌜ ((locks : List ℕ) → ListsMoved lists (rulingOf r locks) h after) ⌝ }
 {
     let queued = r.queued;
     let goes = r.goes;

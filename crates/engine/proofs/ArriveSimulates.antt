@@ -172,7 +172,7 @@ module _ {file sizes firsts : List ℕ} {w : ℕ} {t : Schedule} {k : Kept} (a :
             };
         bytes =
             bytes-moved (shows .bytes) (shows .bytes .shared) (shows .bytes .sizes) (shows .bytes .marks)
-            (at-w ∙ ap (λ (v : steps.Worker). arrivedAs true v) (shows .bytes .worker w (known a))) others (λ u ne. refl) (λ u ne. refl);
+            (at-w ∙ ap (λ (v : steps.Worker). arrivedAs true v) (shows .bytes .worker w (known a))) (shows .bytes .locks w (known a)) others (λ u ne. refl) (λ u ne. refl);
         lists = record {
           list = shows .lists .list;
           next = shows .lists .next;

@@ -26,6 +26,7 @@ use Rattle.plan.specs.declared.decode.Record.{Record}
 use Rattle.queue.specs.List.{listOf}
 use Rattle.queue.proofs.Laws.{below-first}
 use Rattle.worker.specs.Private.{ownOf}
+use Rattle.locks.specs.Set.{Shows, Held}
 use Rattle.rules.specs.Codes.{syncOf}
 use Rattle.rules.proofs.Codes.{step-sync}
 use Rattle.moves.specs.Moves.{fetchedAs, stepOfBody, InRange, OwnMoving}
@@ -82,11 +83,11 @@ module _ {file sizes firsts : List ℕ} {w : ℕ} {t : Schedule} {k : Kept} (a :
   pub place-small : getD (k .places) w 0 ≤ stepsLimit
   place-small = omega (arith, place-same, listed-here .place, sound .lengths w)
 
-  pub held-same : getD (k .held) w 0 ≡ workerAt s w .held
-  held-same = sym (ap (λ (v : steps.Worker). v .held) (a .refines .bytes .worker w known))
+  pub held-shown : Shows (getD (k .held) w 0) (workerAt s w .held)
+  held-shown = a .refines .bytes .locks w known
 
-  pub held-small : getD (k .held) w 0 ≤ stepsLimit
-  held-small = omega (arith, held-same, bounded plan s sound inv .held w)
+  pub held-few : Held (getD (k .held) w 0)
+  held-few = record { locks = workerAt s w .held; shown = held-shown; few = bounded plan s sound inv .held w }
 
   -- the round's list
   pub list-some : 0 < length (listOf (t .lists .list))

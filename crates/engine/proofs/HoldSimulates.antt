@@ -24,6 +24,7 @@ use Rattle.protocol.proofs.Sums.{move-moves}
 use Rattle.pages.specs.Copies.{copiesIn, slotCount}
 use Rattle.worker.specs.Private.{viewed, heldAs}
 use Rattle.worker.specs.declared.Worker.{Worker}
+use Rattle.locks.specs.Set.{Shows}
 use Rattle.queue.specs.List.{Holds}
 use Rattle.journal.specs.declared.report.Counts.{Counts}
 use Rattle.decisions.specs.declared.lists.Lists.{Lists}
@@ -49,7 +50,8 @@ heldKept k w v fates can copied memory log =
 pub record StepDone (s : State) (w : ℕ) (y : Sync) (R : Ruling) (t : Schedule) (k : Kept) (v : Worker) (ls : Lists) (r : Round) (sum′ : ℕ) (fates′ : List ℕ) (can′ copied′ : List Bool)
     (memory′ log′ : List ℕ) : Type 0 where
   pub lists : ListsMoved (t .lists) R w ls
-  pub worker : v ≡ heldAs (privateOf k w) (R .held)
+  pub worker : v ≡ heldAs (privateOf k w) (v .held)
+  pub locks : Shows (v .held) (R .held)
   pub fateCount : length fates′ ≡ workersLimit
   pub fates : (u : ℕ)
       → getD fates′ u 0 ≡ cond (eqb u w) (fateCode (fateAfter (R .goes))) (cond (member u (R .wakes ++ R .joins)) 0 (getD (k .fates) u 0))
@@ -71,7 +73,7 @@ heldCounts t r = record { moves = t .counts .moves + 1; rounds = r .rounds; reco
 
 closing-bytes : {n : ℕ} {s : State} {k : Kept} (ws : List ℕ) → SameBytes n s k → SameBytes n (closing ws s) k
 unfolding newRound
-closing-bytes [] b = record { shared = b .shared; worker = b .worker; sizes = b .sizes; marks = b .marks }
+closing-bytes [] b = record { shared = b .shared; worker = b .worker; locks = b .locks; sizes = b .sizes; marks = b .marks }
 closing-bytes (w ∷ ws) b = b
 
 closing-log : {s : State} {i : ℕ} {log : List ℕ} (ws : List ℕ) → SameLog s i log → SameLog (closing ws s) i log
@@ -117,11 +119,11 @@ module _ {file sizes firsts : List ℕ} {w : ℕ} {t : Schedule} {k : Kept} (a :
   unfolding apply
   at-other u ne = getD-set-other (freed out (s .workers)) w u (afterRuling R (workerAt s w)) newWorker ne ∙ freed-at out (s .workers) u
 
-  view : workerAt s w ≡ viewed (privateOf k w) (workerAt s w .arrived) (copiesIn (k .copied) (k .work) w) (workerAt s w .fate)
+  view : workerAt s w ≡ viewed (privateOf k w) (workerAt s w .held) (workerAt s w .arrived) (copiesIn (k .copied) (k .work) w) (workerAt s w .fate)
   view = a .refines .bytes .worker w (known a)
 
   -- the records
-  record-here : privateOf k′ w ≡ heldAs (privateOf k w) (R .held)
+  record-here : privateOf k′ w ≡ heldAs (privateOf k w) (v .held)
   record-here =
       rw (getD-set-same (k .places) w (v .place) 0 (omega (arith, small a, a .refines .entries .places)))
       (rw (getD-set-same (k .held) w (v .held) 0 (omega (arith, small a, a .refines .entries .held)))
@@ -133,12 +135,15 @@ module _ {file sizes firsts : List ℕ} {w : ℕ} {t : Schedule} {k : Kept} (a :
   records : (u : ℕ) → (u ≡ w → ⊥) → privateOf k′ u ≡ privateOf k u
   records u ne = rw (getD-set-other (k .places) w u (v .place) 0 ne, getD-set-other (k .held) w u (v .held) 0 ne)
 
-  mine : workerAt after w ≡ viewed (privateOf k′ w) (arrivedAfter (R .goes)) (copiesIn copied′ (k .work) w) (fateAfter (R .goes))
+  mine : workerAt after w ≡ viewed (privateOf k′ w) (R .held) (arrivedAfter (R .goes)) (copiesIn copied′ (k .work) w) (fateAfter (R .goes))
   mine =
       at-holder
       ∙ ap (λ (x : steps.Worker). afterRuling R x) view
-      ∙ ap (λ (cs : Copies). viewed (heldAs (privateOf k w) (R .held)) (arrivedAfter (R .goes)) cs (fateAfter (R .goes))) (sym (done .mine))
-      ∙ ap (λ (q : Worker). viewed q (arrivedAfter (R .goes)) (copiesIn copied′ (k .work) w) (fateAfter (R .goes))) (sym record-here)
+      ∙ ap (λ (cs : Copies). viewed (heldAs (privateOf k w) (v .held)) (R .held) (arrivedAfter (R .goes)) cs (fateAfter (R .goes))) (sym (done .mine))
+      ∙ ap (λ (q : Worker). viewed q (R .held) (arrivedAfter (R .goes)) (copiesIn copied′ (k .work) w) (fateAfter (R .goes))) (sym record-here)
+
+  locks-here : Shows (getD (k′ .held) w 0) (R .held)
+  locks-here = subst⁻¹ (λ (q : Worker). Shows (q .held) (R .held)) record-here (done .locks)
 
   others : (u : ℕ) → (u ≡ w → ⊥) → workerAt after u ≡ fateAs (workerAt after u .fate) (workerAt s u)
   others u ne = subst⁻¹ (λ (x : steps.Worker). x ≡ fateAs (x .fate) (workerAt s u)) (at-other u ne) (go (member u out))
@@ -157,7 +162,7 @@ module _ {file sizes firsts : List ℕ} {w : ℕ} {t : Schedule} {k : Kept} (a :
   bytes : SameBytes (workersOf (planOf file)) after k′
   bytes =
       bytes-moved (a .refines .bytes) shared (record { memoryLength = done .memorySize; workLength = a .refines .bytes .sizes .workLength })
-      (done .markSize) mine others records (done .others)
+      (done .markSize) mine locks-here others records (done .others)
 
   fates : (u : ℕ) → u < workersOf (planOf file) → getD fates′ u 0 ≡ fateCode (workerAt after u .fate)
   fates u l = done .fates u ∙ go (ℕ-discrete u w)

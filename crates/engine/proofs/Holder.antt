@@ -1,7 +1,7 @@
 -- The holder's step: what its parts ask follows from the state that is shown, and the decision is the rule of the definitions.
 use Prim.Native.Nat.{ℕ, _+_, _*_, _≤_, _<_}
 use mathlib.Core.Bool.{Bool}
-use mathlib.Core.Path.{_≡_, sym, ap, _∙_, subst}
+use mathlib.Core.Path.{_≡_, sym, ap, _∙_, subst, subst⁻¹}
 use mathlib.Core.List.{List, [], _∷_, _++_}
 use native.Mathlib.Omega.{arith}
 use lib.ListN.{length, getD, drop, take}
@@ -12,11 +12,13 @@ use Rattle.protocol.specs.Turns.{workersOf}
 use Rattle.protocol.specs.Sum.{movedBy, settledChange}
 use Rattle.protocol.specs.Report.{entryLength, entryBytes, logBytes}
 use Rattle.protocol.specs.Rounds as rounds
-use Rattle.protocol.specs.Rounds.{State, workerAt, queueOf, fateIn, ruleOf, apply, member, staysIn, joinsNext, memoryAfter, copiesAfter, opOf, operandOf, Entry, entryOf}
+use Rattle.protocol.specs.Rounds.{State, workerAt, queueOf, fateIn, apply, member, staysIn, joinsNext, memoryAfter, copiesAfter, opOf, operandOf, Entry, entryOf}
 use Rattle.protocol.proofs.Invariant.{Core}
+use Rattle.protocol.proofs.Locks.{file-named}
 use Rattle.plan.specs.declared.decode.Record.{Record}
 use Rattle.worker.specs.Private.{heldAs}
 use Rattle.worker.specs.declared.Worker.{Worker}
+use Rattle.locks.specs.Set.{Shows}
 use Rattle.queue.specs.List.{listOf, Below}
 use Rattle.pages.specs.Copies.{copiesIn}
 use Rattle.journal.specs.Bytes.{entryAs}
@@ -38,7 +40,7 @@ use Rattle.engine.specs.Moving.{stateOf, Syncing, AfterMove}
 use Rattle.engine.proofs.Facts as facts
 use Rattle.engine.proofs.Facts.{Holder, ruleAt, applied, hold-core, list-known, next-known}
 use Rattle.engine.proofs.Here as here
-use Rattle.engine.proofs.Here.{sound, inv, small, held-same, held-small, list-some, holds-token, sizes-right, range, sync-here}
+use Rattle.engine.proofs.Here.{sound, inv, small, held-few, list-some, holds-token, sizes-right, range, sync-here}
 use Rattle.engine.proofs.Parts.{scheduled}
 use Rattle.engine.proofs.HoldSimulates.{StepDone, heldKept, hold-simulates}
 
@@ -77,7 +79,7 @@ module _ {r : Record} {w : ℕ} {t : Schedule} {sizes : List ℕ} {k : Kept} (h 
               operand = in-range .object (h .late);
               barrier = λ e. in-range .queue (omega arith) (omega arith);
               target = λ e. omega (arith, in-range .target e, sound a .workers);
-              count = held-small a;
+              held = held-few a;
               good = waits;
               below = below;
               awake = facts.waiting-awake (sound a) (inv a) (a .refines);
@@ -99,17 +101,16 @@ module _ {r : Record} {w : ℕ} {t : Schedule} {sizes : List ℕ} {k : Kept} (h 
   rounds-fit = let i = facts.rounds-fit (sound (h .here)) (inv (h .here)) (h .here .refines) in omega arith
 
   -- the ruling is that of the definitions
-  module _ {d : Decision} {fates′ : List ℕ} (x : Decided (r .op) (r .number) w count sizes (t .lists) (k .fates) d fates′) where
+  module _ {d : Decision} {fates′ : List ℕ} (x : Decided (r .op) (r .number) w (workerAt s w .held) sizes (t .lists) (k .fates) d fates′) where
     ruled : x .is ≡ R
     ruled =
         let a = h .here in
         let queue = facts.queue-listed (sound a) (inv a) (a .refines) in
-        x .ruled plan (queueOf s) (fateIn s)
+        x .ruled plan (queueOf s) (fateIn s) (file-named (h .file))
         (λ l m. queue (onCondition (r .number)))
         (λ e. queue (atBarrier (r .number)))
         (λ e. sym (sizes-right a (r .number) (in-range .queue (omega arith) (omega arith))))
         (λ e. a .refines .lists .fates (r .number) (in-range .target e))
-        ∙ ap (λ (i : ℕ). ruleOf plan (queueOf s) (fateIn s) i y) (held-same a)
 
     lists-moved : ListsMoved (t .lists) R w (d .lists)
     lists-moved = subst (λ (q : rounds.Ruling). ListsMoved (t .lists) q w (d .lists)) ruled (x .carried .moved)
@@ -160,6 +161,9 @@ module _ {r : Record} {w : ℕ} {t : Schedule} {sizes : List ℕ} {k : Kept} (h 
             ∙ (ap (λ (i : ℕ). entryAs (s .rounds + 1) w (opOf y) i outcome) (sym (operand-sync (r .op) (r .number) (q .least) (q .most) (in-range .exit)))
             ∙ ap (λ (i : ℕ). entryAs (s .rounds + 1) w (opOf y) (operandOf y) i) (same-outcome ∙ (x .carried .outcome ∙ ap (λ (q : rounds.Ruling). q .outcome) ruled))))
 
+        same-held : v .held ≡ d .held
+        same-held = ap (λ (q : Worker). q .held) same-worker
+
         done : StepDone s w y R t k v (d .lists) o sum′ fates′ can′ copied′ memory′ log′
         done =
             let shows = h .here .refines in
@@ -167,7 +171,9 @@ module _ {r : Record} {w : ℕ} {t : Schedule} {sizes : List ℕ} {k : Kept} (h 
             let bytes = x .carried .bytes ∙ ap (λ (q : rounds.Ruling). q .bytes) ruled in
             record {
               lists = lists-moved;
-              worker = same-worker ∙ ap (heldAs (privateOf k w)) (x .carried .held ∙ ap (λ (q : rounds.Ruling). q .held) ruled);
+              worker = same-worker ∙ ap (heldAs (privateOf k w)) (sym same-held);
+              locks =
+                  subst⁻¹ (λ (i : ℕ). Shows i (R .held)) same-held (subst (λ (q : rounds.Ruling). Shows (d .held) (q .held)) ruled (x .carried .held));
               fateCount = settled .size;
               fates = settled .code;
               shared = b .shared ∙ ap (λ (i : rounds.Uncommitted). memoryAfter i (copiesIn (k .copied) (k .work) w) (k .memory)) bytes;

@@ -79,11 +79,11 @@ module _ {file sizes firsts : List ℕ} {w : ℕ} {t : Schedule} {k : Kept} (a :
   records : (u : ℕ) → (u ≡ w → ⊥) → privateOf k′ u ≡ privateOf k u
   records u ne = rw (getD-set-other (k .places) w u (v .place) 0 ne, getD-set-other (k .registers) w u (v .registers) 0 ne)
 
-  new : x ≡ viewed v (workerAt s w .arrived) (copiesIn copied work w) (workerAt s w .fate)
+  new : x ≡ viewed v (workerAt s w .held) (workerAt s w .arrived) (copiesIn copied work w) (workerAt s w .fate)
   new =
       ap (λ (b : List ℕ). ownStep b o (workerAt s w)) (a .refines .bytes .shared)
       ∙ ap (λ (y : steps.Worker). ownStep (k .memory) o y) (a .refines .bytes .worker w (known a))
-      ∙ m .worker (workerAt s w .arrived) (workerAt s w .fate)
+      ∙ m .worker (workerAt s w .held) (workerAt s w .arrived) (workerAt s w .fate)
 
   same-arrived : (u : ℕ) → workerAt after u .arrived ≡ workerAt s u .arrived
   same-arrived =
@@ -111,8 +111,8 @@ module _ {file sizes firsts : List ℕ} {w : ℕ} {t : Schedule} {k : Kept} (a :
             (record { memoryLength = shows .bytes .sizes .memoryLength; workLength = m .size ∙ shows .bytes .sizes .workLength }) (m .markSize)
             (getD-set-same (s .workers) w x newWorker inside
             ∙ new
-            ∙ ap (λ (q : Worker). viewed q (workerAt s w .arrived) (copiesIn copied work w) (workerAt s w .fate)) (sym mine))
-            others records (m .others);
+            ∙ ap (λ (q : Worker). viewed q (workerAt s w .held) (workerAt s w .arrived) (copiesIn copied work w) (workerAt s w .fate)) (sym mine))
+            (shows .bytes .locks w (known a)) others records (m .others);
         lists = record {
           list = shows .lists .list;
           next = shows .lists .next;

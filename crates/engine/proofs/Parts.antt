@@ -18,6 +18,7 @@ use Rattle.protocol.proofs.Counting.{clash, member-some}
 use Rattle.pages.specs.Copies.{Lent, copiesIn, slotCount}
 use Rattle.worker.specs.Private.{viewed}
 use Rattle.worker.specs.declared.Worker.{Worker}
+use Rattle.locks.specs.Set.{Shows}
 use Rattle.queue.specs.declared.Queue.{Queue}
 use Rattle.queue.specs.List.{listOf, Holds}
 use Rattle.journal.specs.declared.report.Counts.{Counts}
@@ -30,23 +31,25 @@ use Rattle.engine.specs.Kept.{Kept, privateOf}
 use Rattle.engine.specs.Refines.{SameBytes, SameLists}
 use Rattle.engine.proofs.CanMove.{cond-false, none-away, can-token, can-fence, away-all, mark-set, raised-length, raised-at}
 
--- a worker seen as a record of the code and the rest is so seen with its own arrival and fate
-pub as-viewed : {x : steps.Worker} (v : Worker) {a : Bool} {cs : Copies} {f : Fate} → x ≡ viewed v a cs f → x ≡ viewed v (x .arrived) cs (x .fate)
-as-viewed {x} v {a} {cs} {f} e = subst⁻¹ (λ (y : steps.Worker). y ≡ viewed v (y .arrived) cs (y .fate)) e refl
+-- a worker seen as a record of the code and the rest is so seen with its own locks, arrival and fate
+pub as-viewed : {x : steps.Worker} (v : Worker) {ls : List ℕ} {a : Bool} {cs : Copies} {f : Fate} → x ≡ viewed v ls a cs f
+    → x ≡ viewed v (x .held) (x .arrived) cs (x .fate)
+as-viewed {x} v {ls} {a} {cs} {f} e = subst⁻¹ (λ (y : steps.Worker). y ≡ viewed v (y .held) (y .arrived) cs (y .fate)) e refl
 
 -- One worker has a new record and new copies. Of the others only the fate may be new.
-pub bytes-moved : {n w : ℕ} {s s′ : State} {k k′ : Kept} {a : Bool} {f : Fate} → SameBytes n s k
+pub bytes-moved : {n w : ℕ} {s s′ : State} {k k′ : Kept} {ls : List ℕ} {a : Bool} {f : Fate} → SameBytes n s k
     → s′ .memory ≡ k′ .memory → Lent (k′ .memory) (k′ .work) → length (k′ .copied) ≡ slotCount
-    → workerAt s′ w ≡ viewed (privateOf k′ w) a (copiesIn (k′ .copied) (k′ .work) w) f
+    → workerAt s′ w ≡ viewed (privateOf k′ w) ls a (copiesIn (k′ .copied) (k′ .work) w) f
+    → Shows (getD (k′ .held) w 0) ls
     → ((u : ℕ) → (u ≡ w → ⊥) → workerAt s′ u ≡ fateAs (workerAt s′ u .fate) (workerAt s u))
     → ((u : ℕ) → (u ≡ w → ⊥) → privateOf k′ u ≡ privateOf k u)
     → ((u : ℕ) → (u ≡ w → ⊥) → copiesIn (k′ .copied) (k′ .work) u ≡ copiesIn (k .copied) (k .work) u)
     → SameBytes n s′ k′
-bytes-moved {n} {w} {s} {s′} {k} {k′} b shared sizes marks mine others records copies =
-    record { shared = shared; worker = λ u l. go u l (ℕ-discrete u w); sizes = sizes; marks = marks }
+bytes-moved {n} {w} {s} {s′} {k} {k′} {ls} b shared sizes marks mine locks others records copies =
+    record { shared = shared; worker = λ u l. go u l (ℕ-discrete u w); locks = λ u l. shown u l (ℕ-discrete u w); sizes = sizes; marks = marks }
   where
     Seen : ℕ → Worker → Copies → Type 0
-    Seen u v cs = workerAt s′ u ≡ viewed v (workerAt s′ u .arrived) cs (workerAt s′ u .fate)
+    Seen u v cs = workerAt s′ u ≡ viewed v (workerAt s′ u .held) (workerAt s′ u .arrived) cs (workerAt s′ u .fate)
 
     go : (u : ℕ) → u < n → Dec (u ≡ w) → Seen u (privateOf k′ u) (copiesIn (k′ .copied) (k′ .work) u)
     go u l (yes e) =
@@ -55,6 +58,14 @@ bytes-moved {n} {w} {s} {s′} {k} {k′} b shared sizes marks mine others recor
         subst⁻¹ (λ (v : Worker). Seen u v (copiesIn (k′ .copied) (k′ .work) u)) (records u ne)
         (subst⁻¹ (λ (cs : Copies). Seen u (privateOf k u) cs) (copies u ne)
         (as-viewed (privateOf k u) (others u ne ∙ ap (λ (x : steps.Worker). fateAs (workerAt s′ u .fate) x) (b .worker u l))))
+
+    shown : (u : ℕ) → u < n → Dec (u ≡ w) → Shows (getD (k′ .held) u 0) (workerAt s′ u .held)
+    shown u l (yes e) =
+        subst⁻¹ (λ (i : ℕ). Shows (getD (k′ .held) i 0) (workerAt s′ i .held)) e
+        (subst⁻¹ (λ (x : steps.Worker). Shows (getD (k′ .held) w 0) (x .held)) mine locks)
+    shown u l (no ne) =
+        subst⁻¹ (λ (v : Worker). Shows (v .held) (workerAt s′ u .held)) (records u ne)
+        (subst⁻¹ (λ (x : steps.Worker). Shows (getD (k .held) u 0) (x .held)) (others u ne) (b .locks u l))
 
 -- the schedule behind a holder's step, whose round goes on or is the next
 abbrev pub scheduled : Lists → Round → Counts → ℕ → Schedule

@@ -2,8 +2,8 @@
 use Prim.Native.Nat.{ℕ, _*_, _<_, _≤_}
 use native.Mathlib.Omega.{arith}
 use mathlib.Core.Bool.{Bool, true, false, not}
-use mathlib.Core.Path.{_≡_, refl, sym, ap, _∙_, subst}
-use mathlib.Core.List.{List}
+use mathlib.Core.Path.{_≡_, refl, sym, ap, _∙_, subst, subst⁻¹}
+use mathlib.Core.List.{List, []}
 use lib.Dec.{eqb}
 use lib.ListN.{length, getD, take, replicate, length-replicate}
 use Rattle.protocol.specs.Format.{workersLimit, Plan, upTo}
@@ -24,6 +24,8 @@ use Rattle.pages.specs.Copies.{Lent, copiesIn, slotCount}
 use Rattle.pages.proofs.Slots.{unmarked}
 use Rattle.worker.specs.Private.{viewed}
 use Rattle.worker.specs.declared.Worker.{Worker}
+use Rattle.locks.specs.Set.{Shows}
+use Rattle.locks.proofs.Sets.{no-lock}
 use Rattle.rules.specs.Codes.{fateCode}
 use Rattle.engine.specs.declared.state.Schedule.{Schedule}
 use Rattle.engine.specs.Kept.{Kept, kept, privateOf}
@@ -75,12 +77,17 @@ module _ (plan : Plan) {t : Schedule} {marks : List Bool} (fates memory log work
   abbrev blank : ℕ → Worker
   blank i = record { place = i; held = i; registers = i }
 
-  view : (w : ℕ) → w < workersOf plan → workerAt (start plan memory) w ≡ viewed (privateOf k w) false (copiesIn (replicate slotCount false) work w) (fate w)
+  view : (w : ℕ) → w < workersOf plan → workerAt (start plan memory) w ≡ viewed (privateOf k w) [] false (copiesIn (replicate slotCount false) work w) (fate w)
   unfolding newWorker start
   view w l =
       mapped (firstWorker plan) (workersOf plan) w newWorker l
-      ∙ ap (λ (cs : Copies). viewed (blank 0) false cs (fate w)) (sym (unmarked slotCount work w))
-      ∙ ap (λ (i : ℕ). viewed (blank i) false (copiesIn (replicate slotCount false) work w) (fate w)) (sym (getD-copies 0 workersLimit w))
+      ∙ ap (λ (cs : Copies). viewed (blank 0) [] false cs (fate w)) (sym (unmarked slotCount work w))
+      ∙ ap (λ (i : ℕ). viewed (blank i) [] false (copiesIn (replicate slotCount false) work w) (fate w)) (sym (getD-copies 0 workersLimit w))
+
+  no-locks : (w : ℕ) → w < workersOf plan → Shows (getD none w 0) (workerAt (start plan memory) w .held)
+  no-locks w l =
+      subst⁻¹ (λ (i : ℕ). Shows i (workerAt (start plan memory) w .held)) (getD-copies 0 workersLimit w)
+      (subst⁻¹ (λ (x : steps.Worker). Shows 0 (x .held)) (view w l) no-lock)
 
   able : (u : ℕ) → u < workersLimit → getD marks u false ≡ can (start plan memory) u
   able u l =
@@ -102,7 +109,7 @@ module _ (plan : Plan) {t : Schedule} {marks : List Bool} (fates memory log work
               fates = first .size;
               can = ap length (begun .marks) ∙ raised-length (awake (workersOf plan) fates) (replicate workersLimit false);
             };
-        bytes = record { shared = refl; worker = λ w l. as-viewed (privateOf k w) (view w l); sizes = sizes; marks = length-replicate slotCount false };
+        bytes = record { shared = refl; worker = λ w l. as-viewed (privateOf k w) (view w l); locks = no-locks; sizes = sizes; marks = length-replicate slotCount false };
         lists = record {
           list = subst (λ (ws : List ℕ). Holds (t .lists .list) ws) awake-same (begun .list);
           next = begun .next;

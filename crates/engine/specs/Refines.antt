@@ -12,6 +12,7 @@ use Rattle.protocol.specs.Report.{entryLength, logBytes}
 use Rattle.protocol.specs.Calls.{logLength}
 use Rattle.pages.specs.Copies.{Lent, copiesIn, slotCount}
 use Rattle.worker.specs.Private.{viewed}
+use Rattle.locks.specs.Set.{Shows}
 use Rattle.queue.specs.List.{Holds}
 use Rattle.rules.specs.Codes.{fateCode}
 use Rattle.engine.specs.declared.state.Schedule.{Schedule}
@@ -36,7 +37,9 @@ pub record SameBytes (n : ℕ) (s : State) (k : Kept) : Type 0 where
   pub worker :
       (w : ℕ)
       → w < n
-      → workerAt s w ≡ viewed (privateOf k w) (workerAt s w .arrived) (copiesIn (k .copied) (k .work) w) (workerAt s w .fate)
+      → workerAt s w ≡ viewed (privateOf k w) (workerAt s w .held) (workerAt s w .arrived) (copiesIn (k .copied) (k .work) w) (workerAt s w .fate)
+  -- the number of a worker's locks shows them
+  pub locks : (w : ℕ) → w < n → Shows (getD (k .held) w 0) (workerAt s w .held)
   pub sizes : Lent (k .memory) (k .work)
   pub marks : length (k .copied) ≡ slotCount
 

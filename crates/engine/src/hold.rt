@@ -94,23 +94,23 @@ pub fn hold(
         (kept (now (places .exit)) (now (held .exit)) (now (registers .entry)) (now (fates .exit)) (now (can .exit))
         (now (copied .exit)) (now (memory .exit)) (now (log .exit)) (now (work .entry))) ⌝ }
 {
-    let count = held[w];
+    let locks = held[w];
     let lists = t.lists;
     let counts = t.counts;
-    let d = decide(r.op, r.number, w, count, sizes, lists, fates);
+    let d = decide(r.op, r.number, w, locks, sizes, lists, fates);
     let after = d.lists;
     let bytes = d.bytes;
     let v = Worker {
         place: places[w],
-        held: count,
+        held: locks,
         registers: registers[w],
     };
     let stepped = v.synchronise(d.held, d.outcome);
     let v = stepped.worker;
-    places[w] = v.place;
-    held[w] = v.held;
     let moved = settle_bytes(bytes, w, memory, work, copied, t.sum);
     let records = record_step(r, w, stepped.outcome, counts.rounds, counts.records, log);
+    places[w] = v.place;
+    held[w] = v.held;
     let list = after.list;
     let next = after.next;
     let waiting = after.waiting;

@@ -3,7 +3,7 @@ use Prim.Native.Nat.{ℕ, _≤_, _<_}
 use mathlib.Core.Bool.{Bool, true, false, cond}
 use mathlib.Core.Logic.{⊎-elim}
 use mathlib.Core.Path.{_≡_, refl, sym, ap, _∙_, subst⁻¹}
-use mathlib.Core.List.{List}
+use mathlib.Core.List.{List, []}
 use native.Mathlib.Omega.{arith}
 use lib.Dec.{eqb}
 use lib.ListN.{length}
@@ -13,7 +13,6 @@ use Rattle.protocol.specs.Format.{stepsLimit, Own, assign, load, store, add, su
 use Rattle.protocol.specs.Pages.{Copies, loadWord}
 use Rattle.protocol.specs.Steps as steps
 use Rattle.protocol.specs.Steps.{Fate, going, ownStep}
-use Rattle.protocol.proofs.OwnMoves.{own-leaves}
 use Rattle.plan.specs.Answer.{recordOf}
 use Rattle.plan.specs.declared.decode.Record.{Record}
 use Rattle.pages.specs.Copies.{copiesIn, WorkerHolds, slotCount}
@@ -101,11 +100,11 @@ pub own-moved :
     → OwnMoved v r w memory marks work marks′ work′ (m .worker)
 own-moved v r w memory marks work marks′ work′ read m eight loads stepped holds =
     record {
-      worker = λ arrived fate. step arrived fate ∙ ap (λ (cs : Copies). viewed (m .worker) arrived cs fate) (same (eqb (r .op) opStore) refl ∙ sym (holds .mine));
+      worker = λ locks arrived fate. step locks arrived fate ∙ ap (λ (cs : Copies). viewed (m .worker) locks arrived cs fate) (same (eqb (r .op) opStore) refl ∙ sym (holds .mine));
       others = holds .others;
       size = holds .size;
       markSize = holds .markSize ∙ eight;
-      held = sym (ap (λ (u : steps.Worker). u .held) (step false going)) ∙ own-leaves memory o (viewed v false copies going) .1;
+      held = stepped .held;
     }
   where
     copies : Copies
@@ -117,11 +116,11 @@ own-moved v r w memory marks work marks′ work′ read m eight loads stepped ho
     o : Own
     o = ownOf (r .op) (r .register) (r .number)
 
-    step : (arrived : Bool) (fate : Fate) → ownStep memory o (viewed v arrived copies fate) ≡ viewed (m .worker) arrived after fate
-    step arrived fate = stepped .step memory arrived copies fate loads
+    step : (locks : List ℕ) (arrived : Bool) (fate : Fate) → ownStep memory o (viewed v locks arrived copies fate) ≡ viewed (m .worker) locks arrived after fate
+    step locks arrived fate = stepped .step memory locks arrived copies fate loads
 
     same : (b : Bool) → eqb (r .op) opStore ≡ b → after ≡ copiesLeft (r .op) (m .outcome) memory copies (r .number)
     same true e = sym (ap (λ (t : Bool). cond t after copies) e)
     same false e =
-        sym (ap (λ (u : steps.Worker). u .copies) (step false going))
-        ∙ (own-copies memory (r .op) (r .register) (r .number) (viewed v false copies going) e ∙ sym (ap (λ (t : Bool). cond t after copies) e))
+        sym (ap (λ (u : steps.Worker). u .copies) (step [] false going))
+        ∙ (own-copies memory (r .op) (r .register) (r .number) (viewed v [] false copies going) e ∙ sym (ap (λ (t : Bool). cond t after copies) e))

@@ -59,9 +59,9 @@ copiesLeft op outcome memory copies address = cond (eqb op opStore) (copiesStore
 -- Worker w has made the definition's step, and every other worker has the copies that it had.
 pub record OwnMoved (v : Worker) (r : Record) (w : ℕ) (memory : List ℕ) (marks : List Bool) (work : List ℕ) (marks′ : List Bool) (work′ : List ℕ) (v′ : Worker) : Type 0 where
   pub worker :
-      (arrived : Bool) (fate : Fate)
-      → ownStep memory (ownOf (r .op) (r .register) (r .number)) (viewed v arrived (copiesIn marks work w) fate)
-      ≡ viewed v′ arrived (copiesIn marks′ work′ w) fate
+      (locks : List ℕ) (arrived : Bool) (fate : Fate)
+      → ownStep memory (ownOf (r .op) (r .register) (r .number)) (viewed v locks arrived (copiesIn marks work w) fate)
+      ≡ viewed v′ locks arrived (copiesIn marks′ work′ w) fate
   pub others : (u : ℕ) → (u ≡ w → ⊥) → copiesIn marks′ work′ u ≡ copiesIn marks work u
   pub size : length work′ ≡ length work
   pub markSize : length marks′ ≡ slotCount

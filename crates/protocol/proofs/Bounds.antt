@@ -137,8 +137,8 @@ pub record Bounded (plan : Plan) (s : State) : Type 0 where
   pub records : length (s .log) ≤ stepCount plan + workersOf plan
   pub recordsFit : length (s .log) ≤ 1032
   pub lists : length (s .list) + length (s .next) + length (s .waiting) ≤ workersOf plan
-  pub held : (w : ℕ) → workerAt s w .held ≤ 128
-  pub heldPlace : (w : ℕ) → workerAt s w .held ≤ workerAt s w .place
+  pub held : (w : ℕ) → length (workerAt s w .held) ≤ 128
+  pub heldPlace : (w : ℕ) → length (workerAt s w .held) ≤ workerAt s w .place
   pub place : (w : ℕ) → workerAt s w .place ≤ length (stepsOf plan w) + 1
   pub placeHere : (w : ℕ) → gone (workerAt s w .fate) ≡ 0 → workerAt s w .place ≤ length (stepsOf plan w)
   pub rounds : s .rounds ≤ s .moves

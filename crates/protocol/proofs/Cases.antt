@@ -1,11 +1,11 @@
--- Cases 1 to 10 and those behind them, and the calls with several plans: the definitions yield the tables.
+-- Cases 1 to 10 and those behind them, the calls with several plans, and the plans of Five by count: the definitions yield the tables.
 use mathlib.Core.Path.{_≡_, refl}
 use mathlib.Core.List.{map}
 use Rattle.protocol.specs.Format.{recordFrom, recordsFrom, recordCount, records, rowIn, known, stepOf, sizeIn, sleepersIn, stepsIn, countFrom, planIn}
 use Rattle.protocol.specs.Refusals.{anyOf, lengthRule, planRule, barrierRecordRule, sleepRecordRule, operandsOutside, stepRule, laterRule, recordRule, skipRule, checkSkips, checkRecords, check}
 use Rattle.protocol.specs.Pages.{page, noCopies, loadByte, loadWord, storeByte, storeWord, commitFrom}
 use Rattle.protocol.specs.Steps.{newWorker, ownStep}
-use Rattle.protocol.specs.Rounds.{keep, queueOf, ruleOf, member, freed, apply, newRound}
+use Rattle.protocol.specs.Rounds.{keep, queueOf, member, remove, ruleOf, freed, apply, newRound}
 use Rattle.protocol.specs.Turns.{start, allArrived, can, move, turn, play}
 use Rattle.protocol.specs.RoundRun.{total, runUp, fence, token, roundsFrom}
 use Rattle.protocol.specs.Sum.{sumOf}
@@ -13,13 +13,26 @@ use Rattle.protocol.specs.Report.{logBytes, allFinal, endOf, fateByte, r
 use Rattle.protocol.specs.Calls.{runVerdict, lentLog, run}
 use Rattle.protocol.specs.Listing.{cycles}
 use Rattle.protocol.specs.Batch.{lengthAt, beginsAt, fileAt, partAt, partAs, batchVerdict, runPlans, runAll}
-use Rattle.protocol.proofs.Table.{turnsOf, padded, lentTo, yields, expected, expects, cases}
+use Rattle.protocol.proofs.Table.{turnsOf, padded, lentTo, yields, expected, expects, cases, countedCases, yieldsCounted}
 use Rattle.protocol.proofs.BatchTable.{joined, batchLent, batchLeft, yieldsAll, expectsAll, batches}
 
-pub cases-hold : (map yields cases ≡ map expects cases) × (map yieldsAll batches ≡ map expectsAll batches)
+pub cases-hold : map yields cases ≡ map expects cases
 unfolding recordFrom recordsFrom recordCount records rowIn known stepOf sizeIn sleepersIn stepsIn countFrom planIn anyOf lengthRule planRule
     barrierRecordRule sleepRecordRule operandsOutside stepRule laterRule recordRule skipRule checkSkips checkRecords check page noCopies loadByte loadWord storeByte storeWord
-    commitFrom newWorker ownStep keep queueOf ruleOf member freed apply newRound start allArrived can move turn play total runUp fence token
+    commitFrom newWorker ownStep keep queueOf member remove ruleOf freed apply newRound start allArrived can move turn play total runUp fence token
     roundsFrom sumOf logBytes allFinal endOf fateByte reportBytes runVerdict lentLog run cycles turnsOf padded lentTo yields expected expects cases
+cases-hold = refl
+
+pub batches-hold : map yieldsAll batches ≡ map expectsAll batches
+unfolding recordFrom recordsFrom recordCount records rowIn known stepOf sizeIn sleepersIn stepsIn countFrom planIn anyOf lengthRule planRule
+    barrierRecordRule sleepRecordRule operandsOutside stepRule laterRule recordRule skipRule checkSkips checkRecords check page noCopies loadByte loadWord storeByte storeWord
+    commitFrom newWorker ownStep keep queueOf member ruleOf freed apply newRound start allArrived can move turn play total
+    sumOf logBytes allFinal endOf fateByte reportBytes runVerdict lentLog run cycles padded
     lengthAt beginsAt fileAt partAt partAs batchVerdict runPlans runAll joined batchLent batchLeft yieldsAll expectsAll batches
-cases-hold = (refl, refl)
+batches-hold = refl
+
+pub counted-hold : map yieldsCounted countedCases ≡ map expects countedCases
+unfolding recordFrom recordsFrom recordCount records rowIn known stepOf sizeIn sleepersIn stepsIn countFrom planIn page noCopies storeByte storeWord
+    commitFrom newWorker ownStep keep queueOf member ruleOf freed apply newRound start allArrived can move turn play total runUp fence token
+    roundsFrom sumOf logBytes allFinal endOf fateByte reportBytes lentLog cycles turnsOf padded lentTo expected expects countedCases yieldsCounted
+counted-hold = refl

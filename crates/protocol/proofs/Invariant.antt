@@ -60,8 +60,8 @@ measure plan s = sumOf (weightIn plan) (s .workers)
 -- A worker's own record, with so many steps: the end counts as one more step, and it is behind the worker only once it has left.
 pub record Sane (steps : ℕ) (v : Worker) : Type 0 where
   pub within : v .place ≤ steps + gone (v .fate)
-  pub heldPlace : v .held ≤ v .place
-  pub heldSteps : v .held ≤ steps
+  pub heldPlace : length (v .held) ≤ v .place
+  pub heldSteps : length (v .held) ≤ steps
   -- whoever does not run has arrived as its fate says
   pub still : runs (v .fate) ≡ 0 → v .arrived ≡ hasArrived (v .fate)
 

@@ -224,7 +224,7 @@ unfolding newRound
 closing-keeps [] s = (refl, refl)
 closing-keeps (w ∷ ws) s = (refl, refl)
 
-closed-keeps : (s : State) → (closed s .moves ≡ s .moves) × (closed s .log ≡ s .log)
+pub closed-keeps : (s : State) → (closed s .moves ≡ s .moves) × (closed s .log ≡ s .log)
 closed-keeps s = closing-keeps (s .list) s
 
 pub counts : (plan : Plan) (s : State) (w : ℕ) → move plan s w .moves ≡ s .moves + 1

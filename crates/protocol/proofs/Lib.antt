@@ -48,6 +48,8 @@ pub mod Fence
 pub mod OwnMoves
 -- What a ruling does to the invariant and the measure.
 pub mod Rulings
+-- What a worker holds, by either discipline.
+pub mod Locks
 -- Every rule is lawful.
 pub mod Rules
 -- The laws that this machine obeys, for any plan and state.
@@ -68,6 +70,12 @@ pub mod Logged
 pub mod Sums
 -- What a list of turns leaves has the lengths of the buffers that are lent.
 pub mod Sizes
+-- Two runs side by side: a theorem about any two machines, and what follows for this one.
+
+-- Any two machines that take the same turns: what ties their states together is kept.
+pub mod SideBySide
+-- Five: a plan that meets neither failure of its locks leaves what it left when they went by count.
+pub mod Naming
 -- Four: whole cycles end every plan; parts back to back; each accepted plan of a call is run to its end.
 
 -- The listing program's turns are whole cycles, and end the plan.

@@ -105,7 +105,7 @@ pub record OneOn (steps : ℕ) (v v′ : Worker) : Type 0 where
   pub further : v .place ≤ v′ .place
 
 -- .. which is further on, or has arrived
-further-on : (steps : ℕ) (v v′ : Worker) → Sane steps v → v .fate ≡ going → v′ .fate ≡ going → v′ .held ≡ v .held
+further-on : (steps : ℕ) (v v′ : Worker) → Sane steps v → v .fate ≡ going → v′ .fate ≡ going → length (v′ .held) ≡ length (v .held)
     → v .place ≤ v′ .place → v′ .place ≤ steps → 2 * v .place + tick (v .arrived) < 2 * v′ .place + tick (v′ .arrived) → OneOn steps v v′
 further-on steps v v′ sane g g′ held up in-steps more =
     record {
@@ -147,16 +147,16 @@ own-on plan sound memory o w v e sane g = go o e (inside-steps plan w (v .place)
     go (skipNonzero r k) e l =
         further-on _ v _ sane g g refl (omega arith) (skip (not (eqb (registerOf v r) 0)) k (sound .skipsNonzero w (v .place) r k e)) (omega arith)
 
--- it leaves the mark of arrival and the count
-pub own-leaves : (memory : List ℕ) (o : Own) (v : Worker) → (ownStep memory o v .arrived ≡ v .arrived) × (ownStep memory o v .held ≡ v .held)
+-- it leaves the mark of arrival
+pub own-leaves : (memory : List ℕ) (o : Own) (v : Worker) → ownStep memory o v .arrived ≡ v .arrived
 unfolding ownStep
-own-leaves memory (assign r k) v = (refl, refl)
-own-leaves memory (load r k) v = (refl, refl)
-own-leaves memory (store r k) v = (refl, refl)
-own-leaves memory (add r k) v = (refl, refl)
-own-leaves memory (subtract r k) v = (refl, refl)
-own-leaves memory (skipZero r k) v = (refl, refl)
-own-leaves memory (skipNonzero r k) v = (refl, refl)
+own-leaves memory (assign r k) v = refl
+own-leaves memory (load r k) v = refl
+own-leaves memory (store r k) v = refl
+own-leaves memory (add r k) v = refl
+own-leaves memory (subtract r k) v = refl
+own-leaves memory (skipZero r k) v = refl
+own-leaves memory (skipNonzero r k) v = refl
 
 arrival-on : (steps : ℕ) (v : Worker) → Sane steps v → v .fate ≡ going → v .arrived ≡ false → v .place ≤ steps → OneOn steps v (arrivedAs true v)
 arrival-on steps v sane g a in-steps = further-on steps v (arrivedAs true v) sane g g refl (le-refl _) in-steps (rw a (omega arith))

@@ -8,15 +8,16 @@ use mathlib.Core.Path.{_≡_, refl, sym, ap, _∙_}
 use mathlib.Core.List.{List, [], append-nil}
 use lib.Dec.{eqb, ltb}
 use lib.ListN.{length, getD}
-use Rattle.protocol.specs.Format.{Sync, lock, unlock, wait, signal, broadcast, barrier, startWorker, exit, sync, Plan}
+use Rattle.protocol.specs.Format.{Sync, lock, unlock, wait, signal, broadcast, barrier, startWorker, exit, sync, Discipline, Plan}
 use Rattle.protocol.specs.Steps.{QueueName, onCondition, atBarrier, Fate, going, exited, failed, asleep, waiting, stepsOf, stepAt}
 use Rattle.protocol.specs.Rounds.{Ruling, State, workerAt, waitsOn, keep, queueOf, fateIn, isAsleep, Uncommitted, lost, Goes, keeps, gives, leaves, ruling, failure, givesAtZero}
-use Rattle.protocol.specs.Rounds.{lockRule, unlockRule, waitRule, wakeRule, signalRule, broadcastRule, barrierRule, startRule, exitRule, ruleOf, fateAfter, hasArrived}
+use Rattle.protocol.specs.Rounds.{lockFails, unlockFails, unlocked, lockRule, unlockRule, waitRule, wakeRule, signalRule, broadcastRule, barrierRule, startRule, exitRule, ruleOf, fateAfter, hasArrived}
 use Rattle.protocol.specs.Demands.{occurs}
 use Rattle.protocol.proofs.Bools.{split}
 use Rattle.protocol.proofs.Invariant.{runs, waits, rests, gone, Core}
 use Rattle.protocol.proofs.Counting.{clash, occurs-one, occurs-none, occurs-empty, occurs-take, occurs-kept, occurs-dropped}
 use Rattle.protocol.proofs.OwnMoves.{Listed, inside-steps}
+use Rattle.protocol.proofs.Locks.{locked-more, unlocked-fewer}
 use Rattle.protocol.proofs.Rulings.{Leaving, Lawful}
 
 -- the queue of a condition or a barrier is a part of the waiting list, and all in it have arrived as it asks
@@ -85,9 +86,9 @@ waiter-awake (waiting q) h = refl
 
 module _ (plan : Plan) (s : State) (h : ℕ) (c : Core plan s) (l : Listed plan s h) where
   -- a rule that moves nobody but the holder
-  quiet : (b : Uncommitted) (k : ℕ) (g : Goes) (o : ℕ) → k ≤ workerAt s h .place + 1 → k ≤ length (stepsOf plan h)
-      → workerAt s h .place + 1 ≤ length (stepsOf plan h) + gone (fateAfter g) → Leaving g → Lawful plan s h (ruling b k g [] [] o)
-  quiet b k g o p q t lv =
+  quiet : (b : Uncommitted) (ks : List ℕ) (g : Goes) (o : ℕ) → length ks ≤ workerAt s h .place + 1 → length ks ≤ length (stepsOf plan h)
+      → workerAt s h .place + 1 ≤ length (stepsOf plan h) + gone (fateAfter g) → Leaving g → Lawful plan s h (ruling b ks g [] [] o)
+  quiet b ks g o p q t lv =
       record {
         out = λ w. omega (arith, occurs-empty w);
         woken = λ w z. absurd (omega (arith, occurs-empty w));
@@ -109,35 +110,40 @@ module _ (plan : Plan) (s : State) (h : ℕ) (c : Core plan s) (l : Listed plan 
 
   exits : Lawful plan s h (exitRule (workerAt s h .held))
   exits =
-      by-test (not (eqb (workerAt s h .held) 0)) _ _ fails
+      by-test (not (eqb (length (workerAt s h .held)) 0)) _ _ fails
       (quiet _ _ (leaves exited) _ (omega (arith, c .sane h .heldPlace)) (c .sane h .heldSteps) (omega (arith, l .place)) refl)
 
   -- all but the exit stand inside the steps
   module _ (i : workerAt s h .place < length (stepsOf plan h)) where
-    locks : Lawful plan s h (lockRule (workerAt s h .held))
-    locks = quiet _ _ keeps _ (omega (arith, c .sane h .heldPlace)) (omega (arith, c .sane h .heldPlace)) (omega arith) tt
+    locks : (d : Discipline) (k : ℕ) → Lawful plan s h (lockRule d k (workerAt s h .held))
+    locks d k =
+        let more = locked-more d k (workerAt s h .held) in
+        by-test (lockFails d k (workerAt s h .held)) _ _ fails
+        (quiet _ _ keeps _ (omega (arith, more, c .sane h .heldPlace)) (omega (arith, more, c .sane h .heldPlace)) (omega arith) tt)
 
     gives-or-keeps : (b : Bool) → (gone (fateAfter (cond b gives keeps)) ≡ 0) × Leaving (cond b gives keeps)
     gives-or-keeps true = (refl, tt)
     gives-or-keeps false = (refl, tt)
 
-    unlocks : Lawful plan s h (unlockRule (workerAt s h .held))
-    unlocks =
-        let left = gives-or-keeps (eqb (workerAt s h .held - 1) 0) in
-        by-test (eqb (workerAt s h .held) 0) _ _ fails
-        (quiet _ _ (givesAtZero (workerAt s h .held - 1)) _ (omega (arith, c .sane h .heldPlace)) (omega (arith, c .sane h .heldSteps))
-        (omega (arith, left .0)) (left .1))
+    unlocks : (d : Discipline) (k : ℕ) → Lawful plan s h (unlockRule d k (workerAt s h .held))
+    unlocks d k =
+        let left = unlocked d k (workerAt s h .held) in
+        let fewer = unlocked-fewer d k (workerAt s h .held) in
+        let goes = gives-or-keeps (eqb (length left) 0) in
+        by-test (unlockFails d k (workerAt s h .held)) _ _ fails
+        (quiet _ left (givesAtZero (length left)) _ (omega (arith, fewer, c .sane h .heldPlace)) (omega (arith, fewer, c .sane h .heldSteps))
+        (omega (arith, goes .0)) (goes .1))
 
     waits-on : (q : ℕ) → Lawful plan s h (waitRule q (workerAt s h .held))
     waits-on q =
-        by-test (eqb (workerAt s h .held) 0) _ _ fails
+        by-test (eqb (length (workerAt s h .held)) 0) _ _ fails
         (quiet _ _ (leaves (waiting (onCondition q))) _ (omega (arith, c .sane h .heldPlace)) (c .sane h .heldSteps) (omega arith) refl)
 
     -- some or all of a condition's queue go behind the holder, however many, whatever the outcome
     wakes-some : (q : ℕ) (ws : List ℕ) (o : ℕ) → ((w : ℕ) → occurs w ws ≤ occurs w (queueOf s (onCondition q)))
         → Lawful plan s h (wakeRule ws (workerAt s h .held) o)
     wakes-some q ws o some =
-        let goes = gives-or-keeps (eqb (workerAt s h .held) 0) in
+        let goes = gives-or-keeps (eqb (length (workerAt s h .held)) 0) in
         record {
           out = λ w. omega (arith, ap (occurs w) (append-nil ws), some w, queue-counts s (onCondition q) w);
           woken = λ w z. queue-arrived plan s (onCondition q) w c (omega (arith, some w));
@@ -156,7 +162,7 @@ module _ (plan : Plan) (s : State) (h : ℕ) (c : Core plan s) (l : Listed plan 
 
     meets : (b : ℕ) (size : ℕ) → Lawful plan s h (barrierRule b size (queueOf s (atBarrier b)) (workerAt s h .held))
     meets b size =
-        by-test (not (eqb (workerAt s h .held) 0)) _ _ fails
+        by-test (not (eqb (length (workerAt s h .held)) 0)) _ _ fails
         (by-test (ltb (length (queueOf s (atBarrier b))) (size - 1)) _ _
         (quiet _ _ (leaves (waiting (atBarrier b))) _ (omega (arith, c .sane h .heldPlace)) (c .sane h .heldSteps) (omega arith) refl)
         record {
@@ -216,8 +222,8 @@ rule-lawful plan s h y c l e = go y e
     k = workerAt s h .place
 
     go : (y : Sync) → stepAt plan h (workerAt s h .place) ≡ sync y → Lawful plan s h (ruleOf plan (queueOf s) (fateIn s) (workerAt s h .held) y)
-    go (lock n) e = locks plan s h c l (real-inside plan h k (lock n) refl e)
-    go (unlock n) e = unlocks plan s h c l (real-inside plan h k (unlock n) refl e)
+    go (lock n) e = locks plan s h c l (real-inside plan h k (lock n) refl e) (plan .locks) n
+    go (unlock n) e = unlocks plan s h c l (real-inside plan h k (unlock n) refl e) (plan .locks) n
     go (wait q) e = waits-on plan s h c l (real-inside plan h k (wait q) refl e) q
     go (signal q) e = signals plan s h c l (real-inside plan h k (signal q) refl e) q
     go (broadcast q) e = broadcasts plan s h c l (real-inside plan h k (broadcast q) refl e) q

@@ -31,8 +31,8 @@ pub record Lawful (plan : Plan) (s : State) (h : ℕ) (r : Ruling) : Type 0 wher
   pub out : (w : ℕ) → occurs w (r .wakes ++ r .joins) ≤ occurs w (s .waiting) + rests (workerAt s w .fate)
   pub woken : (w : ℕ) → 0 < occurs w (r .wakes) → workerAt s w .arrived ≡ true
   pub joined : (w : ℕ) → 0 < occurs w (r .joins) → workerAt s w .arrived ≡ false
-  pub heldPlace : r .held ≤ workerAt s h .place + 1
-  pub heldSteps : r .held ≤ length (stepsOf plan h)
+  pub heldPlace : length (r .held) ≤ workerAt s h .place + 1
+  pub heldSteps : length (r .held) ≤ length (stepsOf plan h)
   pub within : workerAt s h .place + 1 ≤ length (stepsOf plan h) + gone (fateAfter (r .goes))
   pub leaving : Leaving (r .goes)
 

@@ -3,10 +3,10 @@
 use Prim.Native.Nat.{ℕ, _-_, _/_, _%_}
 use mathlib.Core.List.{List, [], _∷_, _++_}
 use lib.ListN.{length, replicate}
-use Rattle.protocol.specs.Format.{planOf}
+use Rattle.protocol.specs.Format.{countingLocks, planOf}
 use Rattle.protocol.specs.RoundRun.{roundRun}
 use Rattle.protocol.specs.Listing.{listedTurns}
-use Rattle.protocol.specs.Calls.{memoryLength, logLength, reportLength, workLength, Buffers, Reply, buffersOf, run}
+use Rattle.protocol.specs.Calls.{memoryLength, logLength, reportLength, workLength, Buffers, Reply, buffersOf, playedFrom, run}
 
 -- "Turns are the listing program's, save in case 10." That has no turns.
 pub data Fed : Type 0 where
@@ -113,8 +113,14 @@ stores w number = storesAt w number 0
 abbrev adds : ℕ → List ℕ
 adds w = rec w 17 0 0 ++ rec w 16 1 1 ++ rec w 19 0 1 ++ rec w 18 0 0
 
+abbrev locks : ℕ → ℕ → List ℕ
+locks w k = rec w 32 0 k
+
+abbrev unlocks : ℕ → ℕ → List ℕ
+unlocks w k = rec w 33 0 k
+
 abbrev locked : ℕ → List ℕ → List ℕ
-locked w steps = rec w 32 0 0 ++ steps ++ rec w 33 0 0
+locked w steps = locks w 0 ++ steps ++ unlocks w 0
 
 -- "One worker: lock, wait."
 abbrev pub waiter : List ℕ
@@ -143,6 +149,13 @@ case f l t m g r = record { file = f; lent = l; fed = t; memory = m; log = g; re
 -- one worker commits a 9 at 0, and then fails
 abbrev fails : List ℕ → List ℕ → ℕ → ℕ → ℕ → Case
 fails steps log moves rounds records = case (planRec 1 ++ steps) [] listing (9 ∷ []) log (report 1 1 moves rounds records (one 2) (small 9))
+
+-- Five: "unlocking one that it doesn't hold", lock 1 with lock 0 held; and "locking one that this worker already holds", lock 3
+abbrev wrongUnlock : List ℕ
+wrongUnlock = planRec 1 ++ locks 0 0 ++ stores 0 9 ++ unlocks 0 1
+
+abbrev lockTwice : List ℕ
+lockTwice = planRec 1 ++ locks 0 3 ++ stores 0 9 ++ locks 0 3
 
 unfoldable pub cases : List Case
 cases =
@@ -255,4 +268,41 @@ cases =
     -- .. and a 0 stored over the first word: the sum falls by 65,535, to 67,042,305.
     ∷ case (planRec 1 ++ stores 0 0) (replicate 2048 255) listing (0 ∷ 0 ∷ replicate 2046 255) (entry 1 0 38 0 255)
     (report 1 1 4 1 1 (one 1) (sum 1 252 254 3))
+    -- Five: two locks, given back in the order in which they were taken, and in the other one. "Outcomes show how many are held after."
+    ∷ case (planRec 1 ++ locks 0 1 ++ locks 0 2 ++ stores 0 9 ++ unlocks 0 1 ++ unlocks 0 2) [] listing (9 ∷ [])
+    (entry 1 0 32 1 1 ++ entry 1 0 32 2 2 ++ entry 1 0 33 1 1 ++ entry 1 0 33 2 0 ++ entry 2 0 38 0 255)
+    (report 1 1 9 2 5 (one 1) (small 9))
+    ∷ case (planRec 1 ++ locks 0 1 ++ locks 0 2 ++ stores 0 9 ++ unlocks 0 2 ++ unlocks 0 1) [] listing (9 ∷ [])
+    (entry 1 0 32 1 1 ++ entry 1 0 32 2 2 ++ entry 1 0 33 2 1 ++ entry 1 0 33 1 0 ++ entry 2 0 38 0 255)
+    (report 1 1 9 2 5 (one 1) (small 9))
+    -- Five: the wrong one unlocked, one lock taken twice. The store is lost.
+    ∷ case wrongUnlock [] listing [] (entry 1 0 32 0 1 ++ entry 1 0 33 1 254) (report 1 1 5 1 2 (one 2) (small 0))
+    ∷ case lockTwice [] listing [] (entry 1 0 32 3 1 ++ entry 1 0 32 3 254) (report 1 1 5 1 2 (one 2) (small 0))
+    -- Five: lock 2, given back with lock 1 held, is given back once more. The inner unlock has committed nothing.
+    ∷ case (planRec 1 ++ locks 0 1 ++ locks 0 2 ++ stores 0 9 ++ unlocks 0 2 ++ unlocks 0 2) [] listing []
+    (entry 1 0 32 1 1 ++ entry 1 0 32 2 2 ++ entry 1 0 33 2 1 ++ entry 1 0 33 2 254)
+    (report 1 1 7 1 4 (one 2) (small 0))
+    -- Five: worker 0 waits with locks 1 and 2, and holds both on waking. "What other workers hold plays no part": worker 1 takes lock 1 meanwhile.
+    ∷ case
+    (planRec 2 ++ locks 0 1 ++ locks 0 2 ++ rec 0 34 0 0 ++ unlocks 0 1 ++ unlocks 0 2 ++ locks 1 1 ++ rec 1 35 0 0 ++ unlocks 1 1)
+    [] listing []
+    (entry 1 0 32 1 1 ++ entry 1 0 32 2 2 ++ entry 1 0 34 0 255 ++ entry 1 1 32 1 1 ++ entry 1 1 35 0 0 ++ entry 1 1 33 1 0
+    ++ entry 1 0 33 1 1 ++ entry 1 0 33 2 0 ++ leave (1 ∷ 0 ∷ []))
+    (report 1 2 14 2 10 (both 1 1) (small 0))
+    ∷ []
+
+-- What document 01 says of the two plans that fail: "Only the count matters, not which lock."
+unfoldable pub countedCases : List Case
+countedCases =
+    -- it ran on, and the unlock committed
+    case wrongUnlock [] listing (9 ∷ []) (entry 1 0 32 0 1 ++ entry 1 0 33 1 0 ++ entry 2 0 38 0 255) (report 1 1 7 2 3 (one 1) (small 9))
+    -- it ran on to its end, where "exit with count above 0" fails
+    ∷ case lockTwice [] listing [] (entry 1 0 32 3 1 ++ entry 1 0 32 3 2 ++ entry 1 0 38 0 254) (report 1 1 6 1 3 (one 2) (small 0))
+    ∷ []
+
+-- what the definitions yield with locks by count, by turns and by the round-by-round run
+unfoldable pub yieldsCounted : Case → List Reply
+yieldsCounted c =
+    record { returned = 0; buffers = buffersOf (playedFrom (countingLocks (planOf (c .file))) (lentTo c .memory) (turnsOf c)) }
+    ∷ record { returned = 0; buffers = buffersOf (roundRun (countingLocks (planOf (c .file))) (lentTo c .memory)) }
     ∷ []

@@ -1,18 +1,19 @@
 -- Demand 3: the outcome does not hang on who moved first. What is claimed, of the definitions and of the bytes that a run leaves. And
--- document 02, Three, of the sum, and Four, of many plans.
+-- document 02, Three, of the sum, Four, of many plans, and Five, of locks by name.
 use Prim.Native.Nat.{ℕ, zero, suc, _+_, _-_, _<_, _≤_}
-use mathlib.Core.Bool.{true, cond}
+use mathlib.Core.Bool.{Bool, true, false, cond, not, _&&_, _||_}
 use mathlib.Core.Path.{_≡_}
 use mathlib.Core.List.{List, [], _∷_, _++_}
 use lib.Dec.{eqb}
 use lib.ListN.{length, getD, replicate}
-use Rattle.protocol.specs.Format.{word, longAt, Plan, planOf}
+use Rattle.protocol.specs.Ops.{opLock, opUnlock}
+use Rattle.protocol.specs.Format.{word, longAt, Sync, lock, unlock, wait, signal, broadcast, barrier, startWorker, exit, byName, Plan, countingLocks, planOf}
 use Rattle.protocol.specs.Refusals.{Refusal, numberOf, accepted, refused, check}
-use Rattle.protocol.specs.Rounds.{Entry}
+use Rattle.protocol.specs.Rounds.{Entry, State, workerAt, queueOf, fateIn, outcomeFailed, lockFails, unlockFails, ruleOf, entryOf}
 use Rattle.protocol.specs.Turns.{workersOf, start, movingTurns, ended}
 use Rattle.protocol.specs.RoundRun.{moveLimit, roundRun}
 use Rattle.protocol.specs.Sum.{sumOf, keptSum}
-use Rattle.protocol.specs.Report.{logBytes}
+use Rattle.protocol.specs.Report.{logBytes, reportBytes}
 use Rattle.protocol.specs.Calls.{Buffers, buffersOf, logLength, playedFrom}
 use Rattle.protocol.specs.Batch.{Batch, fileAt, partsOf}
 
@@ -88,3 +89,37 @@ pub record PlanLeft (file : List ℕ) (before after : Buffers) (answer : ℕ) : 
 abbrev pub EachLeft : ℕ → List ℕ → List ℕ → Batch → Batch → Type 0
 EachLeft count files lengths before after =
     (k : ℕ) → k < count → PlanLeft (fileAt files lengths k) (partsOf k before) (partsOf k after) (getD (after .answers) k 0)
+
+-- Five: "Locking one that this worker already holds, or unlocking one that it doesn't hold": the two failures, of a worker that holds these
+abbrev pub misnames : List ℕ → Sync → Bool
+misnames held (lock k) = lockFails byName k held
+misnames held (unlock k) = unlockFails byName k held
+misnames held (wait c) = false
+misnames held (signal c) = false
+misnames held (broadcast c) = false
+misnames held (barrier b) = false
+misnames held (startWorker w) = false
+misnames held exit = false
+
+-- "A plan whose round-by-round run meets neither failure": its log, by names, shows no lock and no unlock that failed
+abbrev pub lockFailed : Entry → Bool
+lockFailed e = (eqb (e .op) opLock || eqb (e .op) opUnlock) && eqb (e .outcome) outcomeFailed
+
+unfoldable pub noLockFailed : List Entry → Bool
+noLockFailed [] = true
+noLockFailed (e ∷ es) = not (lockFailed e) && noLockFailed es
+
+-- .. which it shows just where one of the two is met
+abbrev pub FailureLogged : Plan → State → ℕ → Sync → Type 0
+FailureLogged plan s h y =
+    lockFailed (entryOf s h y (ruleOf plan (queueOf s) (fateIn s) (workerAt s h .held) y .outcome)) ≡ misnames (workerAt s h .held) y
+
+-- ".. has, under every turn list, the memory, log and report it had": those of the same plan with its locks by count
+pub record AsByCount (plan : Plan) (lent turns : List ℕ) : Type 0 where
+  pub memory : playedFrom plan lent turns .memory ≡ playedFrom (countingLocks plan) lent turns .memory
+  pub log : playedFrom plan lent turns .log ≡ playedFrom (countingLocks plan) lent turns .log
+  pub report : reportBytes (playedFrom plan lent turns) ≡ reportBytes (playedFrom (countingLocks plan) lent turns)
+
+-- .. and of the bytes that an accepted run leaves
+abbrev pub LeftAsByCount : Plan → List ℕ → List ℕ → Buffers → Type 0
+LeftAsByCount plan lent turns left = left ≡ buffersOf (playedFrom (countingLocks plan) lent turns)

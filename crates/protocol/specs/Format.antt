@@ -215,10 +215,16 @@ abbrev pub upTo : ℕ → List ℕ
 upTo k = countFrom k 0
 
 -- A plan: the steps of worker 0, 1, .. n − 1, the size of each barrier, and the workers that sleep at first.
+-- Five: "Locks by name." By count is how document 01 had them: "only the count matters, not which lock". That is kept for what Five
+-- promises, that a plan which meets none of its failures leaves what it left by count.
+pub data Discipline : Type 0 where
+  byName byCount : Discipline
+
 pub record Plan : Type 0 where
   pub steps : List (List Step)
   pub sizes : List ℕ
   pub sleepers : List ℕ
+  pub locks : Discipline
 
 unfoldable pub planIn : List Record → Plan
 planIn rs =
@@ -226,7 +232,12 @@ planIn rs =
       steps = map (λ w. stepsIn rs w) (upTo (workersIn rs));
       sizes = map (λ b. sizeIn rs b) (upTo barrierCount);
       sleepers = sleepersIn rs;
+      locks = byName;
     }
+
+-- the same plan with its locks by count
+abbrev pub countingLocks : Plan → Plan
+countingLocks plan = record { steps = plan .steps; sizes = plan .sizes; sleepers = plan .sleepers; locks = byCount }
 
 abbrev pub planOf : List ℕ → Plan
 planOf file = planIn (records file)

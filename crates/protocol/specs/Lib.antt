@@ -30,5 +30,5 @@ pub mod Batch
 pub mod WellFormed
 -- "Who can cause which refusal" as a description: each refusal's condition, and the order of the tests.
 pub mod Conditions
--- Demand 3; and what the sum (Three) and many plans (Four) are to show.
+-- Demand 3; and what the sum (Three), many plans (Four) and locks by name (Five) are to show.
 pub mod Demands

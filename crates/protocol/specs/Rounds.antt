@@ -1,11 +1,11 @@
--- Document 01, "Rounds", and document 02, One and Two: the state of a run, and the rule of each synchronising step.
+-- Document 01, "Rounds", and document 02, One, Two and Five: the state of a run, and the rule of each synchronising step.
 use Prim.Native.Nat.{ℕ, _+_, _-_}
 use mathlib.Core.Bool.{Bool, true, false, cond, not, _||_}
 use mathlib.Core.List.{List, [], _∷_, _++_}
 use lib.Dec.{ltb, eqb}
-use lib.ListN.{length, getD, set, take}
+use lib.ListN.{length, getD, set, take, drop}
 use Rattle.protocol.specs.Ops.{opLock, opUnlock, opWait, opSignal, opBroadcast, opBarrier, opExit, opStart}
-use Rattle.protocol.specs.Format.{Own, Sync, lock, unlock, wait, signal, broadcast, barrier, startWorker, exit, Plan}
+use Rattle.protocol.specs.Format.{Own, Sync, lock, unlock, wait, signal, broadcast, barrier, startWorker, exit, Discipline, byName, byCount, Plan}
 use Rattle.protocol.specs.Pages.{Copies, noCopies, commit}
 use Rattle.protocol.specs.Steps.{QueueName, onCondition, atBarrier, Fate, going, exited, failed, asleep, waiting, Worker, workerOf, newWorker, fateAs, arrivedAs, ownStep}
 
@@ -68,6 +68,10 @@ unfoldable pub keep : (ℕ → Bool) → List ℕ → List ℕ
 keep t [] = []
 keep t (w ∷ ws) = cond (t w) (w ∷ keep t ws) (keep t ws)
 
+unfoldable pub member : ℕ → List ℕ → Bool
+member w [] = false
+member w (v ∷ vs) = eqb w v || member w vs
+
 unfoldable pub queueOf : State → QueueName → List ℕ
 queueOf s q = keep (λ w. waitsOn q (workerAt s w .fate)) (s .waiting)
 
@@ -85,7 +89,7 @@ pub data Goes : Type 0 where
 
 pub record Ruling : Type 0 where
   pub bytes : Uncommitted
-  pub held : ℕ
+  pub held : List ℕ
   pub goes : Goes
   -- who "goes directly behind the holder in this round's list"
   pub wakes : List ℕ
@@ -93,7 +97,7 @@ pub record Ruling : Type 0 where
   pub joins : List ℕ
   pub outcome : ℕ
 
-abbrev pub ruling : Uncommitted → ℕ → Goes → List ℕ → List ℕ → ℕ → Ruling
+abbrev pub ruling : Uncommitted → List ℕ → Goes → List ℕ → List ℕ → ℕ → Ruling
 ruling b h g ws js o = record { bytes = b; held = h; goes = g; wakes = ws; joins = js; outcome = o }
 
 -- Outcomes that name neither a worker nor a count: "barrier, 0 if it queued", "a failure 254", "the woken worker or 255 ..; wait and exit
@@ -114,67 +118,93 @@ abbrev pub outcomeNone : ℕ
 outcomeNone = 255
 
 -- "Failure: .. The worker leaves for good and its uncommitted bytes are lost." The outcome is "254 with the op as met".
-abbrev pub failure : ℕ → Ruling
+abbrev pub failure : List ℕ → Ruling
 failure held = ruling lost held (leaves failed) [] [] outcomeFailed
 
 -- "With count 0 give up the token, else run on."
 abbrev pub givesAtZero : ℕ → Goes
-givesAtZero held = cond (eqb held 0) gives keeps
+givesAtZero count = cond (eqb count 0) gives keeps
 
 abbrev pub commitsAtZero : ℕ → Uncommitted
-commitsAtZero held = cond (eqb held 0) committed kept
+commitsAtZero count = cond (eqb count 0) committed kept
 
--- "Lock: with count 0, commit. Count rises by one; the holder keeps the token and runs on."
-abbrev pub lockRule : ℕ → Ruling
-lockRule held = ruling (commitsAtZero held) (held + 1) keeps [] [] (held + 1)
+-- Five: "Locking one that this worker already holds, or unlocking one that it doesn't hold, is a failure; what other workers hold plays no
+-- part." By count: "Failure: unlock .. with count 0"
+abbrev pub lockFails : Discipline → ℕ → List ℕ → Bool
+lockFails byName k held = member k held
+lockFails byCount k held = false
 
--- "Unlock: count falls by one. At 0, commit and give up the token; else run on." "Failure: unlock .. with count 0"
-abbrev pub unlockRule : ℕ → Ruling
-unlockRule held =
-    cond (eqb held 0) (failure held)
-    (ruling (commitsAtZero (held - 1)) (held - 1) (givesAtZero (held - 1)) [] [] (held - 1))
+abbrev pub unlockFails : Discipline → ℕ → List ℕ → Bool
+unlockFails byName k held = not (member k held)
+unlockFails byCount k held = eqb (length held) 0
+
+unfoldable pub remove : ℕ → List ℕ → List ℕ
+remove k [] = []
+remove k (j ∷ js) = cond (eqb k j) js (j ∷ remove k js)
+
+-- what is held after it; by count a mark for each lock, whichever it is
+abbrev pub locked : Discipline → ℕ → List ℕ → List ℕ
+locked byName k held = k ∷ held
+locked byCount k held = 0 ∷ held
+
+abbrev pub unlocked : Discipline → ℕ → List ℕ → List ℕ
+unlocked byName k held = remove k held
+unlocked byCount k held = drop 1 held
+
+-- "Lock: with count 0, commit. Count rises by one; the holder keeps the token and runs on." Five: "Outcomes show how many are held after."
+abbrev pub lockRule : Discipline → ℕ → List ℕ → Ruling
+lockRule d k held =
+    cond (lockFails d k held) (failure held)
+    (ruling (commitsAtZero (length held)) (locked d k held) keeps [] [] (length (locked d k held)))
+
+-- "Unlock: count falls by one. At 0, commit and give up the token; else run on.": by what is held after it
+abbrev pub givenBack : List ℕ → Ruling
+givenBack left = ruling (commitsAtZero (length left)) left (givesAtZero (length left)) [] [] (length left)
+
+abbrev pub unlockRule : Discipline → ℕ → List ℕ → Ruling
+unlockRule d k held = cond (unlockFails d k held) (failure held) (givenBack (unlocked d k held))
 
 -- "Wait: commit, leave, join the tail of that condition's queue, count kept." "Failure: .. wait with count 0"
-abbrev pub waitRule : ℕ → ℕ → Ruling
-waitRule c held = cond (eqb held 0) (failure held) (ruling committed held (leaves (waiting (onCondition c))) [] [] outcomeNone)
+abbrev pub waitRule : ℕ → List ℕ → Ruling
+waitRule c held = cond (eqb (length held) 0) (failure held) (ruling committed held (leaves (waiting (onCondition c))) [] [] outcomeNone)
 
 -- A signal and a broadcast commit; whom they wake "goes directly behind the holder in this round's list".
-abbrev pub wakeRule : List ℕ → ℕ → ℕ → Ruling
-wakeRule woken held outcome = ruling committed held (givesAtZero held) woken [] outcome
+abbrev pub wakeRule : List ℕ → List ℕ → ℕ → Ruling
+wakeRule woken held outcome = ruling committed held (givesAtZero (length held)) woken [] outcome
 
 -- "Signal: .. the first waiter, if any". The outcome is "the woken worker or 255".
-abbrev pub signalRule : List ℕ → ℕ → Ruling
+abbrev pub signalRule : List ℕ → List ℕ → Ruling
 signalRule queued held = wakeRule (take 1 queued) held (getD queued 0 outcomeNone)
 
 -- Two: "all waiters go directly behind the holder, first waiter first. The outcome is the number woken, 0 if none."
-abbrev pub broadcastRule : List ℕ → ℕ → Ruling
+abbrev pub broadcastRule : List ℕ → List ℕ → Ruling
 broadcastRule queued held = wakeRule queued held (length queued)
 
 -- "Barrier: commit. With fewer than size − 1 queued, leave and queue. Otherwise the queued workers join the next list in order of arrival,
 -- then the caller." "Failure: .. barrier .. with count above 0". The outcome is "0 if it queued, else the size".
-abbrev pub barrierRule : ℕ → ℕ → List ℕ → ℕ → Ruling
+abbrev pub barrierRule : ℕ → ℕ → List ℕ → List ℕ → Ruling
 barrierRule b size queued held =
-    cond (not (eqb held 0)) (failure held)
+    cond (not (eqb (length held) 0)) (failure held)
     (cond (ltb (length queued) (size - 1))
     (ruling committed held (leaves (waiting (atBarrier b))) [] [] outcomeQueued)
     (ruling committed held gives [] queued size))
 
 -- "Exit: commit, leave." "Failure: .. exit with count above 0"
-abbrev pub exitRule : ℕ → Ruling
-exitRule held = cond (not (eqb held 0)) (failure held) (ruling committed held (leaves exited) [] [] outcomeNone)
+abbrev pub exitRule : List ℕ → Ruling
+exitRule held = cond (not (eqb (length held) 0)) (failure held) (ruling committed held (leaves exited) [] [] outcomeNone)
 
 abbrev pub isAsleep : Fate → Bool
 isAsleep f = elim f [ going ↦ false | exited ↦ false | failed ↦ false | asleep ↦ true | waiting q ↦ false ]
 
 -- One: "The caller commits, the sleeper joins the tail of the next round's list, and the caller keeps the token until it gives it up by
 -- another step". "Outcome: 1, or 253 if the worker wasn't asleep; then the caller still commits and keeps the token, and nobody joins a list."
-abbrev pub startRule : ℕ → Fate → ℕ → Ruling
+abbrev pub startRule : ℕ → Fate → List ℕ → Ruling
 startRule w f held = cond (isAsleep f) (ruling committed held keeps [] (w ∷ []) outcomeStarted) (ruling committed held keeps [] [] outcomeAwake)
 
 -- a step's rule, by who waits where and who has which fate
-unfoldable pub ruleOf : Plan → (QueueName → List ℕ) → (ℕ → Fate) → ℕ → Sync → Ruling
-ruleOf plan queue fates held (lock k) = lockRule held
-ruleOf plan queue fates held (unlock k) = unlockRule held
+unfoldable pub ruleOf : Plan → (QueueName → List ℕ) → (ℕ → Fate) → List ℕ → Sync → Ruling
+ruleOf plan queue fates held (lock k) = lockRule (plan .locks) k held
+ruleOf plan queue fates held (unlock k) = unlockRule (plan .locks) k held
 ruleOf plan queue fates held (wait c) = waitRule c held
 ruleOf plan queue fates held (signal c) = signalRule (queue (onCondition c)) held
 ruleOf plan queue fates held (broadcast c) = broadcastRule (queue (onCondition c)) held
@@ -226,10 +256,6 @@ isWaiting f = elim f [ going ↦ false | exited ↦ false | failed ↦ false | a
 
 abbrev pub joinsWaiting : Goes → ℕ → List ℕ
 joinsWaiting g h = elim g [ keeps ↦ [] | gives ↦ [] | leaves f ↦ cond (isWaiting f) (h ∷ []) [] ]
-
-unfoldable pub member : ℕ → List ℕ → Bool
-member w [] = false
-member w (v ∷ vs) = eqb w v || member w vs
 
 abbrev pub without : List ℕ → List ℕ → List ℕ
 without out ws = keep (λ w. not (member w out)) ws

@@ -16,21 +16,23 @@ pub data Fate : Type 0 where
   going exited failed asleep : Fate
   waiting : QueueName → Fate
 
--- "each worker's place, registers, count, copies and fate", and whether it has arrived at the fence of its round
+-- "each worker's place, registers, count, copies and fate", and whether it has arrived at the fence of its round. Five: "Each worker's
+-- record holds the set of its locks in place of a count": none of them stands twice in `held`, the last one taken is first. "Where document
+-- 01 says count, read the size of that set": its length.
 pub record Worker : Type 0 where
   pub place : ℕ
   pub registers : List ℕ
-  pub held : ℕ
+  pub held : List ℕ
   pub arrived : Bool
   pub copies : Copies
   pub fate : Fate
 
-abbrev pub workerOf : ℕ → List ℕ → ℕ → Bool → Copies → Fate → Worker
+abbrev pub workerOf : ℕ → List ℕ → List ℕ → Bool → Copies → Fate → Worker
 workerOf p rs h b cs f = record { place = p; registers = rs; held = h; arrived = b; copies = cs; fate = f }
 
 -- "Each worker has four 16-bit registers, zero at first."
 unfoldable pub newWorker : Worker
-newWorker = workerOf 0 (replicate registerCount 0) 0 false noCopies going
+newWorker = workerOf 0 (replicate registerCount 0) [] false noCopies going
 
 -- antt has no record update: the worker with one of its parts anew
 abbrev pub placeAs : ℕ → Worker → Worker

@@ -6,11 +6,12 @@ use mathlib.Core.List.{List, []}
 use lib.Dec.{eqb}
 use lib.ListN.{length, getD, take}
 use Rattle.protocol.specs.Ops.{opLock, opSignal, opBroadcast, opBarrier, opStart}
-use Rattle.protocol.specs.Format.{workersLimit, barrierCount, stepsLimit, lockLimit, Plan}
+use Rattle.protocol.specs.Format.{workersLimit, barrierCount, lockLimit, byName, Plan}
 use Rattle.protocol.specs.Steps.{QueueName, onCondition, atBarrier, Fate}
 use Rattle.protocol.specs.Rounds as rounds
 use Rattle.protocol.specs.Rounds.{keep, member, fateAfter, commitsAtZero, givesAtZero, startRule, ruleOf}
 use Rattle.format.specs.Fates.{codeAsleep}
+use Rattle.locks.specs.Set.{Shows, Held}
 use Rattle.queue.specs.declared.Queue.{Queue}
 use Rattle.queue.specs.List.{listOf, Good, Below}
 use Rattle.rules.specs.declared.ruling.Uncommitted.{Uncommitted}
@@ -26,9 +27,10 @@ wokenOf wakes queued = cond wakes (take 1 queued) []
 abbrev pub joinedOf : Bool → List ℕ → List ℕ
 joinedOf joins queued = cond joins queued []
 
-abbrev pub rulingOf : Ruling → rounds.Ruling
-rulingOf r =
-    rounds.ruling (uncommittedOf (r .bytes)) (r .held) (goesOf (r .goes)) (wokenOf (r .wakes) (listOf (r .queued)))
+-- what the ruling leaves the holder with is a number, which shows the locks
+abbrev pub rulingOf : Ruling → List ℕ → rounds.Ruling
+rulingOf r locks =
+    rounds.ruling (uncommittedOf (r .bytes)) locks (goesOf (r .goes)) (wokenOf (r .wakes) (listOf (r .queued)))
     (joinedOf (r .joins || r .starts) (listOf (r .queued))) (r .outcome)
 
 -- those of a list whose fate's code is the key
@@ -40,13 +42,13 @@ abbrev pub Coded : Goes → Type 0
 Coded goes = fateCode (fateAfter (goesOf goes)) ≡ codeAfter goes
 
 -- where a holder goes that gives up the token with count 0
-pub record AtZero (held : ℕ) (goes : Goes) : Type 0 where
-  pub same : goesOf goes ≡ givesAtZero held
+pub record AtZero (count : ℕ) (goes : Goes) : Type 0 where
+  pub same : goesOf goes ≡ givesAtZero count
   pub coded : Coded goes
 
 -- what becomes of the copies of a holder that commits with count 0
-pub record Commits (held : ℕ) (bytes : Uncommitted) : Type 0 where
-  pub same : uncommittedOf bytes ≡ commitsAtZero held
+pub record Commits (count : ℕ) (bytes : Uncommitted) : Type 0 where
+  pub same : uncommittedOf bytes ≡ commitsAtZero count
 
 -- how many sleepers a step starts: one, if it is a start and its worker sleeps
 abbrev pub sleepersAt : List ℕ → ℕ → ℕ
@@ -62,12 +64,11 @@ pub record Alone (wakes joins : Bool) (queued : Queue) (waiting : List ℕ) : Ty
   pub one : length (listOf queued) ≡ 1
   pub away : (w : ℕ) → member w waiting ≡ true → member w (listOf queued) ≡ false
 
--- what holds of every ruling, by a holder of so many locks at a step with this number that starts so many sleepers, where these wait
-pub record Coherent (held number called : ℕ) (waiting : Queue) (fates : List ℕ) (r : Ruling) : Type 0 where
+-- what holds of every ruling, at a step with this number that starts so many sleepers, where these wait
+pub record Coherent (number called : ℕ) (waiting : Queue) (fates : List ℕ) (r : Ruling) : Type 0 where
   pub coded : Coded (r .goes)
   pub some : r .wakes ≡ true → 0 < length (listOf (r .queued))
   pub apart : r .wakes ≡ true → r .joins ≡ false
-  pub rises : r .held ≤ held + 1
   pub good : Good (r .queued)
   pub below : Below workersLimit (listOf (r .queued))
   pub few : length (listOf (r .queued)) ≤ length (listOf waiting) + called
@@ -75,14 +76,16 @@ pub record Coherent (held number called : ℕ) (waiting : Queue) (fates : List �
   pub alone : r .starts ≡ true → Alone (r .wakes) (r .joins) (r .queued) (listOf waiting)
 
 -- a ruling of the code is that of the definitions
-pub record Means (held number called : ℕ) (waiting : Queue) (fates : List ℕ) (r : Ruling) (is : rounds.Ruling) : Type 0 where
-  pub same : rulingOf r ≡ is
-  pub sound : Coherent held number called waiting fates r
+pub record Means (number called : ℕ) (waiting : Queue) (fates : List ℕ) (r : Ruling) (is : rounds.Ruling) : Type 0 where
+  pub same : rulingOf r (is .held) ≡ is
+  pub shown : Shows (r .held) (is .held)
+  pub sound : Coherent number called waiting fates r
 
--- a ruling of the code is that of a start of this worker, whatever fate it is that its code shows
-pub record Started (target held : ℕ) (waiting : Queue) (fates : List ℕ) (r : Ruling) : Type 0 where
-  pub same : (f : Fate) → getD fates target 0 ≡ fateCode f → rulingOf r ≡ startRule target f held
-  pub sound : (number : ℕ) → Coherent held number (sleepersAt fates target) waiting fates r
+-- a ruling of the code is that of a start of this worker by a holder of these locks, whatever fate it is that its code shows
+pub record Started (target : ℕ) (locks : List ℕ) (waiting : Queue) (fates : List ℕ) (r : Ruling) : Type 0 where
+  pub same : (f : Fate) → getD fates target 0 ≡ fateCode f → rulingOf r locks ≡ startRule target f locks
+  pub shown : Shows (r .held) locks
+  pub sound : (number : ℕ) → Coherent number (sleepersAt fates target) waiting fates r
 
 -- those who wait with this code as their fate, asked for by a barrier of this size: nobody, where all who wait are too few for it
 pub record Met (fates : List ℕ) (waiting : Queue) (code size : ℕ) (q : Queue) : Type 0 where
@@ -96,28 +99,32 @@ pub record Starting (target : ℕ) (waiting : Queue) (fates : List ℕ) : Type 0
   pub awake : (w : ℕ) → member w (listOf waiting) ≡ true → eqb (getD fates w 0) codeAsleep ≡ false
 
 -- what a ruling is asked for: of all numbers that a synchronising step may have a lock's are the greatest
-pub record Asking (op number held : ℕ) (waiting : Queue) (fates : List ℕ) : Type 0 where
+pub record Asking (op number holds : ℕ) (waiting : Queue) (fates : List ℕ) : Type 0 where
   pub least : opLock ≤ op
   pub most : op ≤ opStart
   pub operand : number ≤ lockLimit
   pub barrier : op ≡ opBarrier → number < barrierCount
   pub target : op ≡ opStart → number < workersLimit
-  pub count : held ≤ stepsLimit
+  pub held : Held holds
   pub good : Good waiting
   pub below : Below workersLimit (listOf waiting)
   -- nobody who waits sleeps
   pub awake : (w : ℕ) → member w (listOf waiting) ≡ true → eqb (getD fates w 0) codeAsleep ≡ false
 
--- the rule of the definitions, in every plan with these sizes and every state with these queues and fates
-abbrev pub RuledBy : ℕ → ℕ → ℕ → List ℕ → Queue → List ℕ → rounds.Ruling → Type 0
-RuledBy op number held sizes waiting fates is =
+-- the rule of the definitions for a holder of these locks, in every plan with these sizes and every state with these queues and fates
+abbrev pub RuledBy : ℕ → ℕ → List ℕ → List ℕ → Queue → List ℕ → rounds.Ruling → Type 0
+RuledBy op number locks sizes waiting fates is =
     (plan : Plan) (queue : QueueName → List ℕ) (fate : ℕ → Fate)
+    → plan .locks ≡ byName
     → (opSignal ≤ op → op ≤ opBroadcast → found fates (listOf waiting) (conditionCode number) ≡ queue (onCondition number))
     → (op ≡ opBarrier → found fates (listOf waiting) (barrierCode number) ≡ queue (atBarrier number))
     → (op ≡ opBarrier → getD (plan .sizes) number 0 ≡ getD sizes number 0)
     → (op ≡ opStart → getD fates number 0 ≡ fateCode (fate number))
-    → is ≡ ruleOf plan queue fate held (syncOf op number)
+    → is ≡ ruleOf plan queue fate locks (syncOf op number)
 
-pub record Ruled (op number held : ℕ) (sizes : List ℕ) (waiting : Queue) (fates : List ℕ) (r : Ruling) : Type 0 where
-  pub same : RuledBy op number held sizes waiting fates (rulingOf r)
-  pub sound : Coherent held number (calledBy op number fates) waiting fates r
+-- a ruling of the code is that rule, and leaves the holder with the locks after it
+pub record Ruled (op number : ℕ) (locks sizes : List ℕ) (waiting : Queue) (fates : List ℕ) (r : Ruling) : Type 0 where
+  pub after : List ℕ
+  pub shown : Shows (r .held) after
+  pub same : RuledBy op number locks sizes waiting fates (rulingOf r after)
+  pub sound : Coherent number (calledBy op number fates) waiting fates r

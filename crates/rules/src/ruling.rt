@@ -7,13 +7,19 @@ use format::fates::ON_CONDITION;
 use format::limits::BARRIER_COUNT;
 use format::limits::WORKERS_LIMIT;
 use format::ops;
+use locks::count;
+use locks::holds;
+use locks::with;
+use locks::without;
 use queue::Queue;
 ghost use mathlib.Core.Path.{_≡_};
 ghost use mathlib.Core.List.{List};
 ghost use Rattle.protocol.specs.Ops.{opBroadcast};
 ghost use Prim.Native.Nat.{ℕ, _≤_};
-ghost use Rattle.protocol.specs.Format.{workersLimit, stepsLimit, lockLimit};
+ghost use lib.ListN.{length};
+ghost use Rattle.protocol.specs.Format.{workersLimit, lockLimit, byName};
 ghost use Rattle.protocol.specs.Rounds.{failure, lockRule, unlockRule, waitRule, signalRule, barrierRule, exitRule};
+ghost use Rattle.locks.specs.Set.{Shows, Held};
 ghost use Rattle.queue.specs.List.{listOf, Good, Below};
 ghost use Rattle.queue.specs.declared.Queue.{Queue};
 ghost use Rattle.rules.specs.Codes.{conditionCode, barrierCode};
@@ -59,7 +65,7 @@ pub struct Ruling {
 }
 
 fn failed(held: u64) -> Ruling
-    ensures { λ r. ⌜ ((number called : ℕ) (waiting : Queue) (fates : List ℕ) → Means held number called waiting fates r (failure held)) ⌝ }
+    ensures { λ r. ⌜ ((locks : List ℕ) → Shows held locks → (number called : ℕ) (waiting : Queue) (fates : List ℕ) → Means number called waiting fates r (failure locks)) ⌝ }
 {
     let none = Queue::empty();
     Ruling {
@@ -75,13 +81,13 @@ fn failed(held: u64) -> Ruling
 }
 
 fn gives_at_zero(held: u64) -> Goes
-    ensures { λ r. ⌜ AtZero held r ⌝ }
+    ensures { λ r. ⌜ ((locks : List ℕ) → Shows held locks → AtZero (length locks) r) ⌝ }
 {
     if held == 0 { Goes::Gives } else { Goes::Keeps }
 }
 
 fn commits_at_zero(held: u64) -> Uncommitted
-    ensures { λ r. ⌜ Commits held r ⌝ }
+    ensures { λ r. ⌜ ((locks : List ℕ) → Shows held locks → Commits (length locks) r) ⌝ }
 {
     if held == 0 {
         Uncommitted::Committed
@@ -90,33 +96,37 @@ fn commits_at_zero(held: u64) -> Uncommitted
     }
 }
 
-fn lock(held: u64) -> Ruling
-    requires { ⌜ held ≤ stepsLimit ⌝ }
-    ensures { λ r. ⌜ ((number called : ℕ) (waiting : Queue) (fates : List ℕ) → Means held number called waiting fates r (lockRule held)) ⌝ }
+fn lock(k: u64, held: u64) -> Ruling
+    requires { ⌜ (k ≤ lockLimit) × Held held ⌝ }
+    ensures { λ r. ⌜ ((locks : List ℕ) → Shows held locks → (number called : ℕ) (waiting : Queue) (fates : List ℕ) → Means number called waiting fates r (lockRule byName k locks)) ⌝ }
 {
+    if holds(held, k) {
+        return failed(held);
+    }
     let none = Queue::empty();
     let bytes = commits_at_zero(held);
+    let after = with(held, k);
     Ruling {
         bytes,
-        held: held + 1,
+        held: after,
         goes: Goes::Keeps,
         wakes: false,
         joins: false,
         starts: false,
         queued: none,
-        outcome: (held + 1) as u8,
+        outcome: count(after) as u8,
     }
 }
 
-fn unlock(held: u64) -> Ruling
-    requires { ⌜ held ≤ stepsLimit ⌝ }
-    ensures { λ r. ⌜ ((number called : ℕ) (waiting : Queue) (fates : List ℕ) → Means held number called waiting fates r (unlockRule held)) ⌝ }
+fn unlock(k: u64, held: u64) -> Ruling
+    requires { ⌜ (k ≤ lockLimit) × Held held ⌝ }
+    ensures { λ r. ⌜ ((locks : List ℕ) → Shows held locks → (number called : ℕ) (waiting : Queue) (fates : List ℕ) → Means number called waiting fates r (unlockRule byName k locks)) ⌝ }
 {
-    if held == 0 {
+    if !holds(held, k) {
         return failed(held);
     }
     let none = Queue::empty();
-    let left = held - 1;
+    let left = without(held, k);
     let bytes = commits_at_zero(left);
     let goes = gives_at_zero(left);
     Ruling {
@@ -127,21 +137,21 @@ fn unlock(held: u64) -> Ruling
         joins: false,
         starts: false,
         queued: none,
-        outcome: left as u8,
+        outcome: count(left) as u8,
     }
 }
 
-fn wait(condition: u64, count: u64) -> Ruling
+fn wait(condition: u64, mine: u64) -> Ruling
     requires { ⌜ condition ≤ lockLimit ⌝ }
-    ensures { λ r. ⌜ ((number called : ℕ) (waiting : Queue) (fates : List ℕ) → Means count number called waiting fates r (waitRule condition count)) ⌝ }
+    ensures { λ r. ⌜ ((locks : List ℕ) → Shows mine locks → (number called : ℕ) (waiting : Queue) (fates : List ℕ) → Means number called waiting fates r (waitRule condition locks)) ⌝ }
 {
-    if count == 0 {
-        return failed(count);
+    if mine == 0 {
+        return failed(mine);
     }
     let none = Queue::empty();
     Ruling {
         bytes: Uncommitted::Committed,
-        held: count,
+        held: mine,
         goes: Goes::Leaves(ON_CONDITION + 2 * condition),
         wakes: false,
         joins: false,
@@ -153,7 +163,7 @@ fn wait(condition: u64, count: u64) -> Ruling
 
 fn signal(condition: u64, held: u64, waiting: Queue, fates: &[u64; WORKERS_LIMIT]) -> Ruling
     requires { ⌜ (condition ≤ lockLimit) × Good waiting × Below workersLimit (listOf waiting) ⌝ }
-    ensures { λ r. ⌜ ((number called : ℕ) → Means held number called waiting (now (fates .entry)) r (signalRule (found (now (fates .entry)) (listOf waiting) (conditionCode condition)) held)) ⌝ }
+    ensures { λ r. ⌜ ((locks : List ℕ) → Shows held locks → (number called : ℕ) → Means number called waiting (now (fates .entry)) r (signalRule (found (now (fates .entry)) (listOf waiting) (conditionCode condition)) locks)) ⌝ }
 {
     let goes = gives_at_zero(held);
     let queued = waiting.select(fates, ON_CONDITION + 2 * condition);
@@ -194,8 +204,8 @@ fn met(b: u64, size: u8, waiting: Queue, fates: &[u64; WORKERS_LIMIT]) -> Queue
 
 fn barrier(b: u64, size: u8, held: u64, waiting: Queue, fates: &[u64; WORKERS_LIMIT]) -> Ruling
     requires { ⌜ (b ≤ lockLimit) × Good waiting × Below workersLimit (listOf waiting) ⌝ }
-    ensures { λ r. ⌜ ((called : ℕ) → Means held b called waiting (now (fates .entry)) r
-        (barrierRule b size (found (now (fates .entry)) (listOf waiting) (barrierCode b)) held)) ⌝ }
+    ensures { λ r. ⌜ ((locks : List ℕ) → Shows held locks → (called : ℕ) → Means b called waiting (now (fates .entry)) r
+        (barrierRule b size (found (now (fates .entry)) (listOf waiting) (barrierCode b)) locks)) ⌝ }
 {
     if held != 0 {
         return failed(held);
@@ -226,7 +236,7 @@ fn barrier(b: u64, size: u8, held: u64, waiting: Queue, fates: &[u64; WORKERS_LI
 }
 
 fn exit(held: u64) -> Ruling
-    ensures { λ r. ⌜ ((number called : ℕ) (waiting : Queue) (fates : List ℕ) → Means held number called waiting fates r (exitRule held)) ⌝ }
+    ensures { λ r. ⌜ ((locks : List ℕ) → Shows held locks → (number called : ℕ) (waiting : Queue) (fates : List ℕ) → Means number called waiting fates r (exitRule locks)) ⌝ }
 {
     if held != 0 {
         return failed(held);
@@ -247,7 +257,7 @@ fn exit(held: u64) -> Ruling
 // A start of the target, asleep or not.
 fn start(target: usize, held: u64, waiting: Queue, fates: &[u64; WORKERS_LIMIT]) -> Ruling
     requires { ⌜ Starting target waiting (now fates) ⌝ }
-    ensures { λ r. ⌜ Started target held waiting (now (fates .entry)) r ⌝ }
+    ensures { λ r. ⌜ ((locks : List ℕ) → Shows held locks → Started target locks waiting (now (fates .entry)) r) ⌝ }
 {
     let goes = Goes::Keeps;
     if fates[target] != ASLEEP {
@@ -286,15 +296,15 @@ pub fn rule(
     fates: &[u64; WORKERS_LIMIT],
 ) -> Ruling
     requires { ⌜ Asking op number held waiting (now fates) × (op ≡ opBroadcast → ⊥) ⌝ }
-    ensures { λ r. ⌜ Ruled op number held (now (sizes .entry)) waiting (now (fates .entry)) r ⌝ }
+    ensures { λ r. ⌜ ((locks : List ℕ) → Shows held locks → Ruled op number locks (now (sizes .entry)) waiting (now (fates .entry)) r) ⌝ }
 {
+    let n = number as u64;
     if op == ops::LOCK {
-        return lock(held);
+        return lock(n, held);
     }
     if op == ops::UNLOCK {
-        return unlock(held);
+        return unlock(n, held);
     }
-    let n = number as u64;
     if op == ops::WAIT {
         return wait(n, held);
     }

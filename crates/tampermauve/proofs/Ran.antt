@@ -1,4 +1,4 @@
--- What the call returns, and demand 3 and the sum of what it leaves.
+-- What the call returns; and of what it leaves demand 3, the sum, and that it is what it was by count.
 use Prim.Native.Nat.{ℕ}
 use mathlib.Core.Bool.{Bool, true, false}
 use mathlib.Core.Path.{_≡_, refl, sym, ap, _∙_, subst⁻¹}
@@ -9,9 +9,11 @@ use lib.ListN.{length}
 use Rattle.protocol.specs.Format.{planOf}
 use Rattle.protocol.specs.Refusals.{Verdict, accepted, refused, codeOf, check}
 use Rattle.protocol.specs.Turns.{workersOf}
+use Rattle.protocol.specs.RoundRun.{roundRun}
 use Rattle.protocol.specs.Calls.{Buffers, Reply, buffersOf, misfit, namesNobody, turnsLimit, playedFrom, replyOf, verdictBy, runVerdict, run}
-use Rattle.protocol.specs.Demands.{Demand3Bytes, SumShown}
+use Rattle.protocol.specs.Demands.{Demand3Bytes, SumShown, noLockFailed, LeftAsByCount}
 use Rattle.protocol.proofs.Bytes.{demand3-bytes}
+use Rattle.protocol.proofs.Naming.{by-count-bytes}
 use Rattle.protocol.proofs.Numbered.{numbered}
 use Rattle.admission.specs.Run.{answerBy}
 use Rattle.tampermauve.specs.Run.{Ran}
@@ -47,7 +49,7 @@ module _ (file turns : List ℕ) (b : Buffers) where
   pub ran : (r : ℕ) (after : Buffers) → _≡_ {A = Reply} (record { returned = r; buffers = after }) (run file turns b) → (r ≡ 0 → SumShown after)
       → Ran file turns b r after
   unfolding runVerdict
-  ran r after same sum = record { same = same; demand3 = carried; sum = sum }
+  ran r after same sum = record { same = same; demand3 = carried; sum = sum; byCount = counted }
     where
       verdict : r ≡ 0 → runVerdict file turns b ≡ accepted
       verdict z = none-refused (runVerdict file turns b) (sym returned-code ∙ (sym (ap (λ (o : Reply). o .returned) same) ∙ z))
@@ -56,6 +58,11 @@ module _ (file turns : List ℕ) (b : Buffers) where
       carried z =
           subst⁻¹ (λ (left : Buffers). Demand3Bytes (planOf file) (b .memory) turns left) (ap (λ (o : Reply). o .buffers) same)
           (demand3-bytes file turns b (verdict z))
+
+      counted : r ≡ 0 → noLockFailed (roundRun (planOf file) (b .memory) .log) ≡ true → LeftAsByCount (planOf file) (b .memory) turns after
+      counted z clean =
+          subst⁻¹ (λ (left : Buffers). LeftAsByCount (planOf file) (b .memory) turns left) (ap (λ (o : Reply). o .buffers) same)
+          (by-count-bytes file turns b (verdict z) clean)
 
   pub refusal : (r : ℕ) → r ≡ answerBy file turns (misfit b) → (r ≡ 0 → ⊥) → _≡_ {A = Reply} (record { returned = r; buffers = b }) (run file turns b)
   unfolding run runVerdict

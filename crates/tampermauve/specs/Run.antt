@@ -6,9 +6,10 @@ use mathlib.Core.List.{List}
 use lib.ListN.{length}
 use Rattle.protocol.specs.Format.{planOf}
 use Rattle.protocol.specs.Turns.{ended}
+use Rattle.protocol.specs.RoundRun.{roundRun}
 use Rattle.protocol.specs.Report.{reportBytes}
 use Rattle.protocol.specs.Calls.{Buffers, Reply, reportLength, lentLog, playedFrom, run}
-use Rattle.protocol.specs.Demands.{Demand3Bytes, SumShown}
+use Rattle.protocol.specs.Demands.{Demand3Bytes, SumShown, noLockFailed, LeftAsByCount}
 use Rattle.plan.specs.declared.check.Layout.{Layout}
 use Rattle.engine.specs.Turning.{Playing}
 
@@ -29,8 +30,10 @@ pub record Performed (file turns : List ℕ) (whole : Bool) (start memory log re
   pub sameLog : log ≡ lentLog (playedFrom (planOf file) start played)
   pub sameReport : report ≡ reportBytes (playedFrom (planOf file) start played)
 
--- what is returned and left is what the definition gives; and, of the bytes that an accepted run leaves, demand 3 and the sum
+-- what is returned and left is what the definition gives; and, of the bytes that an accepted run leaves, demand 3, the sum, and that they are
+-- what they were by count where no lock fails
 pub record Ran (file turns : List ℕ) (before : Buffers) (r : ℕ) (after : Buffers) : Type 0 where
   pub same : _≡_ {A = Reply} (record { returned = r; buffers = after }) (run file turns before)
   pub demand3 : r ≡ 0 → Demand3Bytes (planOf file) (before .memory) turns after
   pub sum : r ≡ 0 → SumShown after
+  pub byCount : r ≡ 0 → noLockFailed (roundRun (planOf file) (before .memory) .log) ≡ true → LeftAsByCount (planOf file) (before .memory) turns after

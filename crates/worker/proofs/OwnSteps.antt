@@ -57,28 +57,28 @@ module _ (registers : List ℕ) (op value number loaded : ℕ) {operand r : ℕ}
       let difference : r ≡ (value + 65536 - operand) % 65536 = omega arith in
       rw e (rw holds at difference)
 
-module _ (v : Worker) (register number : ℕ) (memory : List ℕ) (arrived : Bool) (copies : Copies) (fate : Fate) where
+module _ (v : Worker) (register number : ℕ) (memory locks : List ℕ) (arrived : Bool) (copies : Copies) (fate : Fate) where
   -- the worker behind an own step
   abbrev after : ℕ → steps.Worker
-  after op = ownStep memory (ownOf op register number) (viewed v arrived copies fate)
+  after op = ownStep memory (ownOf op register number) (viewed v locks arrived copies fate)
 
   -- ops 16, 17, 19 and 20 set a register
   set-step :
       (op loaded : ℕ) → 16 ≤ op → op < 21 → (op ≡ 18 → ⊥) → (op ≡ 17 → loaded ≡ loadWord memory copies number)
-      → after op ≡ setting register (resultOf (registersOf v) op (getD (registersOf v) register 0) number loaded) (viewed v arrived copies fate)
+      → after op ≡ setting register (resultOf (registersOf v) op (getD (registersOf v) register 0) number loaded) (viewed v locks arrived copies fate)
   unfolding ownOf ownStep resultOf
   set-step op loaded least most =
       each
       (λ k.
       (k ≡ 18 → ⊥) → (k ≡ 17 → loaded ≡ loadWord memory copies number)
-      → after k ≡ setting register (resultOf (registersOf v) k (getD (registersOf v) register 0) number loaded) (viewed v arrived copies fate))
+      → after k ≡ setting register (resultOf (registersOf v) k (getD (registersOf v) register 0) number loaded) (viewed v locks arrived copies fate))
       16 4 (λ n read. refl) (λ n read. rw (read refl)) (λ n read. absurd (n refl)) (λ n read. refl) (λ n read. refl) op least (omega arith)
 
   -- ops 21 and 22 skip
-  skip-step : (op : ℕ) → 21 ≤ op → op ≤ 22 → after op ≡ placeAs (v .place + 1 + skipOf op (getD (registersOf v) register 0) number) (viewed v arrived copies fate)
+  skip-step : (op : ℕ) → 21 ≤ op → op ≤ 22 → after op ≡ placeAs (v .place + 1 + skipOf op (getD (registersOf v) register 0) number) (viewed v locks arrived copies fate)
   unfolding ownOf ownStep skipOf
   skip-step op least most =
-      each (λ k. after k ≡ placeAs (v .place + 1 + skipOf k (getD (registersOf v) register 0) number) (viewed v arrived copies fate))
+      each (λ k. after k ≡ placeAs (v .place + 1 + skipOf k (getD (registersOf v) register 0) number) (viewed v locks arrived copies fate))
       21 1 refl refl op least most
 
 pub skip-small : (op value number : ℕ) → number < stepsLimit → skipOf op value number < stepsLimit
@@ -96,14 +96,15 @@ at place v = record { place = place; held = v .held; registers = v .registers }
 module _ (v : Worker) (op register number loaded : ℕ) (ready : OwnStepping v op register number) {value : ℕ} (holds : value ≡ getD (registersOf v) register 0) where
   pub stores : op ≡ 18 → OwnStepped v op register number loaded (record { worker = at (v .place + 1) v; outcome = Stores value })
   unfolding ownOf ownStep
-  stores e = record { step = λ memory arrived copies fate read. rw (e, holds) }
+  stores e = record { step = λ memory locks arrived copies fate read. rw (e, holds); held = refl }
 
   pub skips :
       21 ≤ op → {skip : ℕ} → skip ≡ skipOf op value number
       → OwnStepped v op register number loaded (record { worker = at (v .place + 1 + skip) v; outcome = Private })
   skips h e =
       record {
-        step = λ memory arrived copies fate read. rw (e, holds) (skip-step v register number memory arrived copies fate op h (ready .most));
+        step = λ memory locks arrived copies fate read. rw (e, holds) (skip-step v register number memory locks arrived copies fate op h (ready .most));
+        held = refl;
       }
 
   pub sets :
@@ -112,11 +113,12 @@ module _ (v : Worker) (op register number loaded : ℕ) (ready : OwnStepping v o
       → OwnStepped v op register number loaded (record { worker = left; outcome = Private })
   sets n h e w =
       record {
-        step = λ memory arrived copies fate read.
-            rw (w .place, w .held, w .registers, e, holds) (set-step v register number memory arrived copies fate op loaded (ready .least) h n read);
+        step = λ memory locks arrived copies fate read.
+            rw (w .place, w .registers, e, holds) (set-step v register number memory locks arrived copies fate op loaded (ready .least) h n read);
+        held = w .held;
       }
 
--- a worker that is one place on, with so many locks held, and the step's outcome
+-- a worker that is one place on, with the number of its locks, and the step's outcome
 pub one-on : (v : Worker) (held outcome : ℕ) {place : ℕ} → place ≡ v .place + 1
     → _≡_ {A = Synchronised} (record { worker = record { place = place; held = held; registers = v .registers }; outcome = outcome })
     (record { worker = heldAs v held; outcome = outcome })

@@ -22,11 +22,11 @@ digit n r = n / 2 ^ (16 * r) % 65536
 abbrev pub registersOf : Worker → List ℕ
 registersOf v = digit (v .registers) 0 ∷ digit (v .registers) 1 ∷ digit (v .registers) 2 ∷ digit (v .registers) 3 ∷ []
 
--- the worker of the definitions: what the record holds, and what the engine keeps beside it
-abbrev pub viewed : Worker → Bool → Copies → Fate → steps.Worker
-viewed v arrived copies fate = workerOf (v .place) (registersOf v) (v .held) arrived copies fate
+-- the worker of the definitions: what the record holds, the locks that its number shows, and what the engine keeps beside it
+abbrev pub viewed : Worker → List ℕ → Bool → Copies → Fate → steps.Worker
+viewed v locks arrived copies fate = workerOf (v .place) (registersOf v) locks arrived copies fate
 
--- the worker behind a synchronising step, with so many locks held
+-- the worker behind a synchronising step, with the number of the locks held after it
 abbrev pub heldAs : Worker → ℕ → Worker
 heldAs v held = record { place = v .place + 1; held = held; registers = v .registers }
 
@@ -71,10 +71,11 @@ pub record OwnStepping (v : Worker) (op register number : ℕ) : Type 0 where
   pub operand : opAdd ≤ op → op ≤ opSubtract → number < registerCount
   pub skip : opSkipZero ≤ op → number < stepsLimit
 
--- what a step gives: the definition's step, whatever the memory and the copies, where `loaded` is what a load would read
+-- what a step gives: the definition's step, whatever the memory, the copies and the locks, where `loaded` is what a load would read
 pub record OwnStepped (v : Worker) (op register number loaded : ℕ) (m : Moved) : Type 0 where
   pub step :
-      (memory : List ℕ) (arrived : Bool) (copies : Copies) (fate : Fate)
+      (memory locks : List ℕ) (arrived : Bool) (copies : Copies) (fate : Fate)
       → (op ≡ opLoad → loaded ≡ loadWord memory copies number)
-      → ownStep memory (ownOf op register number) (viewed v arrived copies fate)
-      ≡ viewed (m .worker) arrived (copiesStored (m .outcome) memory copies number) fate
+      → ownStep memory (ownOf op register number) (viewed v locks arrived copies fate)
+      ≡ viewed (m .worker) locks arrived (copiesStored (m .outcome) memory copies number) fate
+  pub held : m .worker .held ≡ v .held

@@ -7,7 +7,7 @@ ghost use Rattle.protocol.specs.Ops.{opAdd, opSubtract};
 ghost use Rattle.protocol.specs.Format.{registerCount, stepsLimit};
 ghost use Rattle.worker.specs.Private.{registersOf, heldAs, Replaced, resultOf, skipOf, OwnStepping, OwnStepped};
 
-// The registers are one number's digits to base 65536, register 0 lowest.
+// held is the set of its locks as one number (`locks`); the registers are one number's digits to base 65536, register 0 lowest.
 pub struct Worker {
     pub place: usize,
     pub held: u64,
@@ -97,7 +97,7 @@ impl Worker {
         }
     }
 
-    // A synchronising step, by its ruling: the place moves on, and so many locks are held.
+    // A synchronising step, by its ruling: the place moves on, and these locks are held.
     pub fn synchronise(mut self, held: u64, outcome: u8) -> Synchronised
         requires { ⌜ self .place ≤ stepsLimit ⌝ }
         ensures { λ r. ⌜ r ≡ record { worker = heldAs self held; outcome = outcome } ⌝ }

@@ -59,12 +59,12 @@ push-requires c κs =
     (p .next, omega (arith, p .total, p .first), omega (arith, p .holder))
 
 returns : tie.Need-returns
-returns c =
+returns c = λ locks z.
     let counted = c .before .before in
     let rested = counted .before .before in
     let s = from-rouse (from-rest rested) in
     gives-up (s .args .condition) (s .pre .1) (asked-by (s .args .condition) (omega arith) (from-rest rested .rouse .ensures)) (rested .rest .ensures)
-    (counted .before .append .ensures) (omega (arith, counted .count .ensures)) (omega (arith, c .before .if1 .taken)) (c .push .ensures)
+    (counted .before .append .ensures) (omega (arith, counted .count .ensures)) (omega (arith, c .before .if1 .taken)) locks z (c .push .ensures)
 
 cons-requires : tie.Need-cons-requires
 cons-requires c κs =
@@ -81,12 +81,12 @@ cons-requires c κs =
     )
 
 returns-2 : tie.Need-returns-2
-returns-2 c =
+returns-2 c = λ locks z.
     let counted = c .before .before in
     let rested = counted .before .before in
     let s = from-rouse (from-rest rested) in
     runs-on (s .args .condition) (s .pre .1) (asked-by (s .args .condition) (omega arith) (from-rest rested .rouse .ensures)) (rested .rest .ensures)
-    (counted .before .append .ensures) (omega (arith, counted .count .ensures)) (λ e. omega (arith, e, c .before .if1 .left)) (c .cons .ensures)
+    (counted .before .append .ensures) (omega (arith, counted .count .ensures)) (λ e. omega (arith, e, c .before .if1 .left)) locks z (c .cons .ensures)
 
 pub broadcast-spec : {M : Type 1} → statement M
 broadcast-spec =

@@ -15,12 +15,12 @@ broadcast-requires : tie.Need-broadcast-requires
 broadcast-requires c κs = search needs
 
 returns : tie.Need-returns
-returns c =
+returns c = λ locks z.
     let a = c .before .before .before .args in
     record {
-      is = broadcastRule (found (now (a .fates)) (listOf (a .lists .waiting)) (conditionCode (a .number))) (a .held);
-      ruled = by-broadcast (omega (arith, c .before .before .if1 .taken)) (a .number) (a .held) (now (a .sizes)) (a .lists .waiting) (now (a .fates));
-      carried = c .broadcast .ensures;
+      is = broadcastRule (found (now (a .fates)) (listOf (a .lists .waiting)) (conditionCode (a .number))) locks;
+      ruled = by-broadcast (omega (arith, c .before .before .if1 .taken)) (a .number) locks (now (a .sizes)) (a .lists .waiting) (now (a .fates));
+      carried = c .broadcast .ensures locks z;
     }
 
 -- the place before the step, from where it is ruled
@@ -39,7 +39,7 @@ add-code c = search needs
 moved-requires : tie.Need-moved-requires
 moved-requires c κs =
     let p = from-rule (c .before) .pre in
-    let q = c .before .rule .ensures .sound in
+    let q = c .before .rule .ensures (p .asked .held .locks) (p .asked .held .shown) .sound in
     record {
       list = p .holding .list;
       next = p .holding .next;
@@ -54,8 +54,9 @@ moved-requires c κs =
 
 settle-fates-requires : tie.Need-settle-fates-requires
 settle-fates-requires c κs =
+    let held = from-rule (c .before .before .before) .pre .asked .held in
     let p = from-rule (c .before .before .before) .pre .holding in
-    let q = c .before .before .before .rule .ensures .sound in (
+    let q = c .before .before .before .rule .ensures (held .locks) (held .shown) .sound in (
       p .size,
       p .holder,
       q .coded,
@@ -63,12 +64,14 @@ settle-fates-requires c κs =
     )
 
 returns-2 : tie.Need-returns-2
-returns-2 c =
-    let ruled = c .before .before .before .before .rule in
+returns-2 c = λ locks z.
+    let rule = c .before .before .before .before .rule in
+    let ruled = rule .ensures locks z in
+    let after = ruled .after in
     record {
-      is = rulingOf (ruled .result);
-      ruled = ruled .ensures .same;
-      carried = record { bytes = refl; held = refl; outcome = refl; moved = c .before .before .moved .ensures; settled = c .settle-fates .ensures };
+      is = rulingOf (rule .result) after;
+      ruled = ruled .same;
+      carried = record { bytes = refl; held = ruled .shown; outcome = refl; moved = c .before .before .moved .ensures after; settled = c .settle-fates .ensures after };
     }
 
 pub decide-spec : {M : Type 1} → statement M

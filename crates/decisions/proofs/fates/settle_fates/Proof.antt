@@ -20,9 +20,10 @@ element-write-fates : tie.Need-element-write-fates
 element-write-fates c = search needs
 
 returns : tie.Need-returns
-returns c = let s = c .before .before .before .before in
+returns c = λ locks.
+    let s = c .before .before .before .before in
     let a = s .args in
-    settled (now (a .fates)) (rulingOf (a .r)) (a .h) _ _ (s .pre .0) (s .pre .1) (c .free-moved .ensures) (c .before .before .code-after .ensures ∙ sym (s .pre .2))
+    settled (now (a .fates)) (rulingOf (a .r) locks) (a .h) _ _ (s .pre .0) (s .pre .1) (c .free-moved .ensures) (c .before .before .code-after .ensures ∙ sym (s .pre .2))
 
 pub settle-fates-spec : {M : Type 1} → statement M
 settle-fates-spec =

@@ -38,7 +38,7 @@ wait-last-requires c κs = let s = c .before .before .before .before .before .be
     (c .stay .ensures .good, omega (arith, ap length (c .stay .ensures .list), left, s .pre .total, s .pre .held), omega (arith, s .pre .holder))
 
 returns : tie.Need-returns
-returns c =
+returns c = λ locks.
     let s = c .before .before .before .before .before .before .before .before in
     let a = s .args in
     record {

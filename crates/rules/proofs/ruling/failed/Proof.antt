@@ -1,6 +1,5 @@
 -- `failed` meets its contract. Assumes nothing.
 use borrow.Author.Needs.{needs}
-use native.Mathlib.Omega.{arith}
 use mathlib.Core.Path.{refl}
 use Rattle.rules.specs.Codes.{fateOf}
 use Rattle.rules.proofs.Rulings.{calm}
@@ -12,7 +11,7 @@ empty-requires c κs = search needs
 
 returns : tie.Need-returns
 unfolding fateOf
-returns c = λ number called waiting fates. record { same = refl; sound = calm refl refl refl refl (omega arith) (c .empty .ensures) }
+returns c = λ locks s number called waiting fates. record { same = refl; shown = s; sound = calm refl refl refl refl (c .empty .ensures) }
 
 pub failed-spec : {M : Type 1} → statement M
 failed-spec = tie.close (tie.spec empty-requires returns)

@@ -42,16 +42,17 @@ asked : (c : tie.After-select)
 asked c = found-by (now (c .before .before .args .fates)) (listOf (c .before .before .args .waiting)) _ (conditionCode (c .before .before .args .condition)) (c .select .ensures .list) (omega arith)
 
 returns : tie.Need-returns
-returns c = λ number called.
+returns c = λ locks z number called.
     let q = c .before .before .select in
     let e₀ = asked (c .before .before) in
-    let gives = c .before .before .before .gives-at-zero .ensures in
+    let gives = c .before .before .before .gives-at-zero .ensures locks z in
     let p = c .before .before .before .before .pre in
     let e = sym (c .before .is-empty .ensures) ∙ c .if1 .taken in
     record {
-      same = rw (← e₀, wakes-none (listOf (q .result)) (c .before .before .before .before .args .held) e, gives .same);
+      same = rw (← e₀, wakes-none (listOf (q .result)) locks e, gives .same);
+      shown = z;
       sound =
-          wakes-nobody refl (gives .coded) (omega arith) (q .ensures .good) (rw e₀ (below-keep 8 _ _ (p .2))) (rw e₀ (and-more called (length-keep _ _)))
+          wakes-nobody refl (gives .coded) (q .ensures .good) (rw e₀ (below-keep 8 _ _ (p .2))) (rw e₀ (and-more called (length-keep _ _)))
           (λ y. clash y)
           (λ y. clash y);
     }
@@ -67,19 +68,19 @@ cast-t12 c =
     omega (arith, c .first .ensures, below-first 8 qs some (rw (q .ensures .list) (below-keep 8 _ _ (c .before .before .before .before .before .pre .2))))
 
 returns-2 : tie.Need-returns-2
-returns-2 c = λ number called.
+returns-2 c = λ locks z number called.
     let q = c .before .before .before .select in
     let e₀ = asked (c .before .before .before) in
-    let gives = c .before .before .before .before .gives-at-zero .ensures in
+    let gives = c .before .before .before .before .gives-at-zero .ensures locks z in
     let s = c .before .before .before .before .before in
     let e = sym (c .before .before .is-empty .ensures) ∙ c .before .if1 .left in
     record {
-      same = rw (← e₀, wakes-first (listOf (q .result)) (s .args .held) e, gives .same, c .first .ensures);
+      same = rw (← e₀, wakes-first (listOf (q .result)) locks e, gives .same, c .first .ensures);
+      shown = z;
       sound = record {
         coded = gives .coded;
         some = λ y. some-in (listOf (q .result)) e;
         apart = λ y. refl;
-        rises = omega arith;
         good = q .ensures .good;
         below = rw e₀ (below-keep 8 _ _ (s .pre .2));
         few = rw e₀ (and-more called (length-keep _ _));

@@ -17,23 +17,25 @@ empty-requires : tie.Need-empty-requires
 empty-requires c κs = search needs
 
 returns : tie.Need-returns
-returns c =
+returns c = λ locks z.
     let s = c .before .before .before in
     record {
-      same = λ f e. starts-none (now (s .args .fates)) (s .args .target) (s .args .held) f e (c .before .if1 .taken);
-      sound = λ number. calm refl refl refl refl (omega arith) (c .empty .ensures);
+      same = λ f e. starts-none (now (s .args .fates)) (s .args .target) locks f e (c .before .if1 .taken);
+      shown = z;
+      sound = λ number. calm refl refl refl refl (c .empty .ensures);
     }
 
 one-requires : tie.Need-one-requires
 one-requires c κs = let h = c .before .before .pre .named in omega arith
 
 returns-2 : tie.Need-returns-2
-returns-2 c =
+returns-2 c = λ locks z.
     let s = c .before .before .before in
     let one = c .one .ensures in
     record {
-      same = λ f e. starts-one (now (s .args .fates)) (s .args .target) (s .args .held) (one .list) f e (c .before .if1 .left);
-      sound = λ number. start-coherent number (s .pre) one refl refl refl (omega arith) (c .before .if1 .left);
+      same = λ f e. starts-one (now (s .args .fates)) (s .args .target) locks (one .list) f e (c .before .if1 .left);
+      shown = z;
+      sound = λ number. start-coherent number (s .pre) one refl refl refl (c .before .if1 .left);
     }
 
 pub start-spec : {M : Type 1} → statement M

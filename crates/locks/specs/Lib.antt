@@ -1,0 +1,2 @@
+-- What a number shows of a set of locks.
+pub mod Set
