@@ -14,7 +14,7 @@ use Rattle.protocol.specs.Rounds.{member, remove}
 use Rattle.protocol.specs.Demands.{occurs}
 use Rattle.protocol.proofs.Bools.{split}
 use Rattle.protocol.proofs.Counting.{clash, member-some, occurs-same, occurs-other}
-use Rattle.locks.specs.Set.{weigh, weight, Shows}
+use Rattle.locks.specs.Set.{weigh, lockWeight, Shows}
 use Rattle.locks.proofs.Bits.{halved, here-more, below-same, above-same, other-same}
 
 -- a number shows the locks that another one shows which is the same, however the code works it out
@@ -90,10 +90,10 @@ module _ {n : ℕ} (k : ℕ) {locks : List ℕ} (small : k ≤ 15) (s : Shows n 
   left = remove k locks
 
   abbrev rest : ℕ
-  rest = weigh weight left
+  rest = weigh lockWeight left
 
   taken : n ≡ rest + 2 ^ k + 65536
-  taken = omega (arith, s .total, removed weight k locks m)
+  taken = omega (arith, s .total, removed lockWeight k locks m)
 
   pub enough : 2 ^ k + 65536 ≤ n
   enough = omega (arith, taken)
@@ -143,7 +143,7 @@ unfolding weigh
 empty-same {n} [] s = ap (λ (i : ℕ). eqb i 0) (s .total)
 empty-same {n} (k ∷ ks) s = ne-eqb n 0 (λ z. positive (2 ^ k) (sym z ∙ s .total)) ∙ sym (ne-eqb (suc (length ks)) 0 (λ z. absurd (omega (arith, z))))
   where
-    positive : (i : ℕ) → 0 ≡ i + 65536 + weigh weight ks → ⊥
+    positive : (i : ℕ) → 0 ≡ i + 65536 + weigh lockWeight ks → ⊥
     positive i e = omega arith
 
 -- a lock's mark, as a shift makes it

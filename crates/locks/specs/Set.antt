@@ -14,12 +14,12 @@ weigh f [] = 0
 weigh f (k ∷ ks) = f k + weigh f ks
 
 -- a mark at the lock's place, and one more above the marks
-abbrev pub weight : ℕ → ℕ
-weight k = 2 ^ k + 65536
+abbrev pub lockWeight : ℕ → ℕ
+lockWeight k = 2 ^ k + 65536
 
 -- the number is the weight of the locks; its marks say which are held, and what stands above them how many
 pub record Shows (n : ℕ) (locks : List ℕ) : Type 0 where
-  pub total : n ≡ weigh weight locks
+  pub total : n ≡ weigh lockWeight locks
   pub marks : (k : ℕ) → k ≤ lockLimit → n / 2 ^ k % 2 ≡ occurs k locks
   pub size : n / 65536 ≡ length locks
 

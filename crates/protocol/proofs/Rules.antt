@@ -11,7 +11,8 @@ use lib.ListN.{length, getD}
 use Rattle.protocol.specs.Format.{Sync, lock, unlock, wait, signal, broadcast, barrier, startWorker, exit, sync, Discipline, Plan}
 use Rattle.protocol.specs.Steps.{QueueName, onCondition, atBarrier, Fate, going, exited, failed, asleep, waiting, stepsOf, stepAt}
 use Rattle.protocol.specs.Rounds.{Ruling, State, workerAt, waitsOn, keep, queueOf, fateIn, isAsleep, Uncommitted, lost, Goes, keeps, gives, leaves, ruling, failure, givesAtZero}
-use Rattle.protocol.specs.Rounds.{lockFails, unlockFails, unlocked, lockRule, unlockRule, waitRule, wakeRule, signalRule, broadcastRule, barrierRule, startRule, exitRule, ruleOf, fateAfter, hasArrived}
+use Rattle.protocol.specs.Rounds.{lockFails, unlockFails, unlocked}
+use Rattle.protocol.specs.Rounds.{lockRule, unlockRule, waitRule, wakeRule, signalRule, broadcastRule, barrierRule, startRule, exitRule, ruleOf, fateAfter, hasArrived}
 use Rattle.protocol.specs.Demands.{occurs}
 use Rattle.protocol.proofs.Bools.{split}
 use Rattle.protocol.proofs.Invariant.{runs, waits, rests, gone, Core}

@@ -163,7 +163,8 @@ fn wait(condition: u64, mine: u64) -> Ruling
 
 fn signal(condition: u64, held: u64, waiting: Queue, fates: &[u64; WORKERS_LIMIT]) -> Ruling
     requires { ⌜ (condition ≤ lockLimit) × Good waiting × Below workersLimit (listOf waiting) ⌝ }
-    ensures { λ r. ⌜ ((locks : List ℕ) → Shows held locks → (number called : ℕ) → Means number called waiting (now (fates .entry)) r (signalRule (found (now (fates .entry)) (listOf waiting) (conditionCode condition)) locks)) ⌝ }
+    ensures { λ r. ⌜ ((locks : List ℕ) → Shows held locks → (number called : ℕ) → Means number called waiting (now (fates .entry)) r
+        (signalRule (found (now (fates .entry)) (listOf waiting) (conditionCode condition)) locks)) ⌝ }
 {
     let goes = gives_at_zero(held);
     let queued = waiting.select(fates, ON_CONDITION + 2 * condition);

@@ -55,7 +55,9 @@ returns-2 c = λ held s number called waiting fates.
     let w = c .before in
     rw (free (w .before .before .before) held s)
     record {
-      same = locks (w .before .before .before .before .before .args .k) held _ (w .before .commits-at-zero .ensures held (shown-by s (omega arith))) (omega (arith, c .count .ensures _ (shown-by (more w held s) (omega arith))));
+      same =
+          locks (w .before .before .before .before .before .args .k) held _ (w .before .commits-at-zero .ensures held (shown-by s (omega arith)))
+          (omega (arith, c .count .ensures _ (shown-by (more w held s) (omega arith))));
       shown = more w held s;
       sound = calm refl refl refl refl (w .before .before .empty .ensures);
     }
