@@ -30,8 +30,8 @@ extern "C" {
  *      bytes, and its runs are refused with 11: compile it anew. 2.1 has one call more than 2.0, tampermauve_run_all, with its refusal
  *      15, and nothing else is changed: a host that was compiled with a header of 2.0 can stay as it is. In 2.2 locks have names: a
  *      worker that locks one which it holds, or unlocks one which it does not hold, fails, where before only the count of its locks
- *      mattered. Calls, buffers, formats and numbers are those of 2.1, and a plan that does neither ends as it did: hosts that were
- *      compiled with a header of 2.0 or 2.1 can stay as they are. */
+ *      mattered. Calls, buffers, formats and numbers are those of 2.1, and hosts that were compiled with a header of 2.0 or 2.1 can
+ *      stay as they are. A plan that does neither ends as it did; one that does is to be approved anew. */
 
 #define TAMPERMAUVE_VERSION_MAJOR 2
 #define TAMPERMAUVE_VERSION_MINOR 2

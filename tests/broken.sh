@@ -79,11 +79,11 @@ apart() {
     changed "a value that the simulator's tests expect" simulator/tests/cases.rs '0,/finished 12/s//finished 13/' 'test failed' make test-simulator
     changed "the twin" bench/twin.c 's/MOST_TURNS = 65535,/MOST_TURNS = 65534,/' 'expected: 0, got: 12' make test-twin
     changed "the table of mutants, without a fault" tests/differential/mutants '/^== step-129$/,/^$/d' 'faults, has' tests/mutants.sh 100
-    changed "an input of the corpus" tests/fuzz/corpus/raw-race 's/M/N/' 'not those of tests/fuzz/corpus.sum: 791' make test-fuzz
+    changed "an input of the corpus" tests/fuzz/corpus/raw-race 's/M/N/' 'not those of tests/fuzz/corpus.sum: 860' make test-fuzz
     without "an input of the corpus, lost" tests/fuzz/corpus/raw-race 'not those of tests/fuzz/corpus.sum: 790' make test-fuzz
     cp -rp tests/fuzz/corpus "$work/kept"
     for input in tests/fuzz/corpus/*; do : >"$input"; done
-    fails "a corpus of empty inputs" 'not those of tests/fuzz/corpus.sum: 791' make test-fuzz
+    fails "a corpus of empty inputs" 'not those of tests/fuzz/corpus.sum: 860' make test-fuzz
     rm -r tests/fuzz/corpus && mv "$work/kept" tests/fuzz/corpus
 }
 
@@ -131,8 +131,8 @@ promises() {
 conventions() {
     changed "specs that import a proof" crates/engine/specs/Moving.antt '2i use Rattle.protocol.proofs.Sound.{Sound}' 'imports a proof' make test-conventions
     changed "a contract that imports a proof" crates/engine/src/sync.rt '/^ghost use/i ghost use Rattle.engine.proofs.Facts.{known};' 'a contract imports a proof' make test-conventions
-    changed "a name for two things" crates/rules/specs/Fates.antt '$a abbrev pub kept : ℕ\nkept = 0' 'stands for two things: kept' make test-conventions
-    changed "a type of another's name" crates/rules/specs/Fates.antt 's/record Freeing/record Syncing/' 'is two types: Syncing' make test-conventions
+    changed "a name for two things" crates/decisions/specs/Fates.antt '$a abbrev pub kept : ℕ\nkept = 0' 'stands for two things: kept' make test-conventions
+    changed "a type of another's name" crates/decisions/specs/Fates.antt 's/record Freeing/record Syncing/' 'is two types: Syncing' make test-conventions
     changed "a type of the code with a definition's name" crates/token/src/lib.rt 's/^pub struct Round /pub struct State /' 'another one in specs or proofs: State' make test-conventions
     changed "two types of the code with one name" crates/token/src/lib.rt 's/^pub struct Round /pub struct Moved /' 'is two types of the code: Moved' make test-conventions
     changed "a number without a name" crates/plan/src/check.rt 's/FILE_LIMIT < bytes/7280 < bytes/' 'a number without a name' make test-conventions

@@ -18,8 +18,6 @@ use Rattle.queue.specs.declared.Queue.{Queue}
 use Rattle.queue.specs.List.{listOf, Holds, Below, setAll}
 use Rattle.queue.proofs.Laws.{first, below-first, below-rest}
 use Rattle.queue.proofs.Scan.{Scan, none-left, scan-start, scan-end, scan-pass, scan-keep}
-use Rattle.decisions.specs.declared.broadcast.Roused.{Roused}
-use Rattle.rules.specs.Rules.{found}
 use Rattle.decisions.specs.Waking.{Rousing, AllWoken}
 use Rattle.decisions.proofs.Moving.{without-kept}
 

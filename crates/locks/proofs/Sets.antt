@@ -13,7 +13,7 @@ use lib.ListN.{length}
 use Rattle.protocol.specs.Rounds.{member, remove}
 use Rattle.protocol.specs.Demands.{occurs}
 use Rattle.protocol.proofs.Bools.{split}
-use Rattle.protocol.proofs.Counting.{clash, member-some, occurs-same, occurs-other}
+use Rattle.protocol.proofs.Counting.{clash, member-some}
 use Rattle.locks.specs.Set.{weigh, lockWeight, Shows}
 use Rattle.locks.proofs.Bits.{halved, here-more, below-same, above-same, other-same}
 

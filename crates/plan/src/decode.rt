@@ -6,7 +6,7 @@ use format::limits::RECORD_REGISTER;
 use format::limits::RECORD_WORKER;
 use words::word;
 ghost use mathlib.Core.Path.{_≡_};
-ghost use Prim.Native.Nat.{_+_, _*_, _≤_};
+ghost use Prim.Native.Nat.{_+_, _≤_};
 ghost use lib.ListN.{length};
 ghost use Rattle.protocol.specs.Format.{recordLength, recordFrom};
 ghost use Rattle.plan.specs.Answer.{bodyOf, decodedOf};

@@ -6,16 +6,16 @@ use native.Mathlib.Omega.{arith}
 use mathlib.Core.Bool.{Bool, true, false, cond, not, _&&_, _||_}
 use mathlib.Core.Path.{_≡_, refl, sym, ap, _∙_, fun-ext, subst⁻¹}
 use mathlib.Core.List.{List, [], _∷_, _++_, map}
-use borrow.Author.Tests.{eqb-true, ne-eqb}
+use borrow.Author.Tests.{ne-eqb}
 use lib.Dec.{eqb, ltb}
 use lib.ListN.{length, getD, set, drop, length-map, List·getD-map}
 use Rattle.protocol.specs.Format.{Own, assign, load, store, add, subtract, skipZero, skipNonzero, Sync, lock, unlock, wait, signal, broadcast, barrier, startWorker, exit}
 use Rattle.protocol.specs.Format.{Step, own, sync, byName, Plan, countingLocks, planOf, upTo}
 use Rattle.protocol.specs.Refusals.{Verdict, accepted, check}
 use Rattle.protocol.specs.Steps.{QueueName, atBarrier, Fate, going, Worker, workerOf, newWorker, fateAs, arrivedAs, ownStep, stepAt}
-use Rattle.protocol.specs.Rounds.{Entry, State, workerAt, queueOf, keep, waitsOn, fateIn, Ruling, ruling, failure, member, remove, ruleOf, lockRule, unlockRule, freed, apply}
+use Rattle.protocol.specs.Rounds.{Entry, State, workerAt, queueOf, keep, waitsOn, fateIn, Ruling, ruling, member, remove, ruleOf, freed, apply}
 use Rattle.protocol.specs.Rounds.{ownMove, arrival, afterRuling, entryOf, syncMove, newRound, isAsleep}
-use Rattle.protocol.specs.Turns.{workersOf, start, firstWorker, allArrived, can, behind, closing, closed, moveBy, move, play, ended}
+use Rattle.protocol.specs.Turns.{workersOf, start, firstWorker, allArrived, can, behind, closing, closed, moveBy, move}
 use Rattle.protocol.specs.RoundRun.{roundRun}
 use Rattle.protocol.specs.Report.{allFinal, endOf, fateByte, reportBytes}
 use Rattle.protocol.specs.Calls.{Buffers, buffersOf, lentLog, playedFrom, replyOf, runVerdict, run}
@@ -27,7 +27,6 @@ use Rattle.protocol.proofs.Bounds.{played-bounded}
 use Rattle.protocol.proofs.Sound.{Sound}
 use Rattle.protocol.proofs.Accepted.{sound-file}
 use Rattle.protocol.proofs.Formed.{run-file}
-use Rattle.protocol.proofs.Confluence.{play as played}
 use Rattle.protocol.proofs.Laws.{closed-keeps, grows}
 use Rattle.protocol.proofs.Obeys.{machine, same-play}
 use Rattle.protocol.proofs.Demand3.{demand3}

@@ -12,7 +12,7 @@ use Rattle.protocol.specs.Refusals.{Verdict, accepted, refused, codeOf, check}
 use Rattle.protocol.specs.Rounds.{State}
 use Rattle.protocol.specs.Report.{reportBytes}
 use Rattle.protocol.specs.Calls.{Buffers, Reply, lentLog}
-use Rattle.protocol.specs.Batch.{answerOf, separate}
+use Rattle.protocol.specs.Batch.{answerOf}
 use Rattle.protocol.specs.WellFormed.{Fitting}
 use Rattle.protocol.proofs.Demand3.{demand3-file}
 use Rattle.protocol.proofs.Batches.{separate-accepted, separate-refused}

@@ -17,7 +17,7 @@ mul-if3 c = search needs
 returns-3 : tie.Need-returns-3
 returns-3 c =
     let start = c .before .before .before .before in
-    wrong (start .args .count) (start .args .l) (λ f. c .if3 .taken (f .lengthsFit))
+    wrong (start .args .count) (start .args .l) (λ f. omega (arith, f .lengthsFit, c .if3 .taken))
 
 mul-if4 : tie.Need-mul-if4
 mul-if4 c = search needs
@@ -25,7 +25,7 @@ mul-if4 c = search needs
 returns-4 : tie.Need-returns-4
 returns-4 c =
     let start = c .before .before .before .before .before .before in
-    wrong (start .args .count) (start .args .l) (λ f. c .if4 .taken (f .memoriesFit))
+    wrong (start .args .count) (start .args .l) (λ f. omega (arith, f .memoriesFit, c .if4 .taken))
 
 mul-if5 : tie.Need-mul-if5
 mul-if5 c = search needs
@@ -33,7 +33,7 @@ mul-if5 c = search needs
 returns-5 : tie.Need-returns-5
 returns-5 c =
     let start = c .before .before .before .before .before .before .before .before in
-    wrong (start .args .count) (start .args .l) (λ f. c .if5 .taken (f .logsFit))
+    wrong (start .args .count) (start .args .l) (λ f. omega (arith, f .logsFit, c .if5 .taken))
 
 mul-if6 : tie.Need-mul-if6
 mul-if6 c = search needs
@@ -41,7 +41,7 @@ mul-if6 c = search needs
 returns-6 : tie.Need-returns-6
 returns-6 c =
     let start = c .before .before .before .before .before .before .before .before .before .before in
-    wrong (start .args .count) (start .args .l) (λ f. c .if6 .taken (f .reportsFit))
+    wrong (start .args .count) (start .args .l) (λ f. omega (arith, f .reportsFit, c .if6 .taken))
 
 returns-7 : tie.Need-returns-7
 returns-7 c =
