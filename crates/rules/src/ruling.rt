@@ -106,6 +106,7 @@ fn lock(k: u64, held: u64) -> Ruling
     let none = Queue::empty();
     let bytes = commits_at_zero(held);
     let after = with(held, k);
+    let outcome = count(after) as u8;
     Ruling {
         bytes,
         held: after,
@@ -114,7 +115,7 @@ fn lock(k: u64, held: u64) -> Ruling
         joins: false,
         starts: false,
         queued: none,
-        outcome: count(after) as u8,
+        outcome,
     }
 }
 
@@ -129,6 +130,7 @@ fn unlock(k: u64, held: u64) -> Ruling
     let left = without(held, k);
     let bytes = commits_at_zero(left);
     let goes = gives_at_zero(left);
+    let outcome = count(left) as u8;
     Ruling {
         bytes,
         held: left,
@@ -137,7 +139,7 @@ fn unlock(k: u64, held: u64) -> Ruling
         joins: false,
         starts: false,
         queued: none,
-        outcome: count(left) as u8,
+        outcome,
     }
 }
 

@@ -45,8 +45,8 @@ more : (c : tie.After-with) (held : List ℕ) → Shows (c .before .before .befo
     → Shows (c .with .result) (c .before .before .before .before .before .args .k ∷ held)
 more c held s = c .with .ensures held s (free (c .before .before .before) held s)
 
-cast-t9 : tie.Need-cast-t9
-cast-t9 c =
+cast-outcome : tie.Need-cast-outcome
+cast-outcome c =
     let h = c .before .before .before .before .before .before .pre .1 in
     omega (arith, c .count .ensures _ (shown-by (more (c .before) (h .locks) (h .shown)) (omega arith)), h .few)
 
@@ -64,4 +64,4 @@ returns-2 c = λ held s number called waiting fates.
 
 pub lock-spec : {M : Type 1} → statement M
 lock-spec =
-    tie.close (tie.spec holds-requires failed-requires returns empty-requires commits-at-zero-requires with-requires count-requires cast-t9 returns-2)
+    tie.close (tie.spec holds-requires failed-requires returns empty-requires commits-at-zero-requires with-requires count-requires cast-outcome returns-2)

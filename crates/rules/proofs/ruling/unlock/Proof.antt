@@ -53,8 +53,8 @@ less : (c : tie.After-without) (held : List ℕ) → Shows (c .before .before .b
     → Shows (c .without .result) (remove (c .before .before .before .before .args .k) held)
 less c held s = c .without .ensures held s (mine (c .before .before) held s)
 
-cast-t10 : tie.Need-cast-t10
-cast-t10 c =
+cast-outcome : tie.Need-cast-outcome
+cast-outcome c =
     let w = c .before .before .before in
     let h = w .before .before .before .before .pre .1 in
     let k = w .before .before .before .before .args .k in
@@ -84,5 +84,5 @@ unlock-spec =
     commits-at-zero-requires
     gives-at-zero-requires
     count-requires
-    cast-t10
+    cast-outcome
     returns-2)
