@@ -80,7 +80,7 @@ apart() {
     changed "the twin" bench/twin.c 's/MOST_TURNS = 65535,/MOST_TURNS = 65534,/' 'expected: 0, got: 12' make test-twin
     changed "the table of mutants, without a fault" tests/differential/mutants '/^== step-129$/,/^$/d' 'faults, has' tests/mutants.sh 100
     changed "an input of the corpus" tests/fuzz/corpus/raw-race 's/M/N/' 'not those of tests/fuzz/corpus.sum: 860' make test-fuzz
-    without "an input of the corpus, lost" tests/fuzz/corpus/raw-race 'not those of tests/fuzz/corpus.sum: 790' make test-fuzz
+    without "an input of the corpus, lost" tests/fuzz/corpus/raw-race 'not those of tests/fuzz/corpus.sum: 859' make test-fuzz
     cp -rp tests/fuzz/corpus "$work/kept"
     for input in tests/fuzz/corpus/*; do : >"$input"; done
     fails "a corpus of empty inputs" 'not those of tests/fuzz/corpus.sum: 860' make test-fuzz
