@@ -1,6 +1,6 @@
 #!/usr/bin/env bash
 # Holds the crates to what docs/PROOFS.md says of names and imports, and the code to its named numbers:
-#   - no file of specs/ and no contract imports a proof: what a reader must believe is closed under imports;
+#   - no file of specs/ and no contract imports a proof: what a reader must believe is closed under imports; nothing is imported that is not used;
 #   - no name stands for two things: a definition in the specs, a type in specs and proofs, a type of the code but for those that are its form of a definition's;
 #   - no number from 3 up stands in the code outside of a constant, a contract or the one match that numbers the refusals, whose names are the
 #     enum's, but for those of `meant` below, each with its reason; ops, fates and outcomes that are 0, 1 or 2 have their names too;
@@ -27,6 +27,29 @@ files() { find crates -name "$1" -not -path '*/target/*' | sort; }
 
 complain "imports a proof" < <(files '*.antt' | grep /specs/ | xargs grep -nE '^(pub )?use [^{]*[.·]proofs\.')
 complain "a contract imports a proof" < <(files '*.rt' | xargs grep -nE '^ghost use [^{]*[.·]proofs\.')
+
+# A name that is imported and does not stand in the rest of the file, comments aside; of an operator, _+_, it is the sign that has to.
+unused() {
+    perl -CSD -e '
+        use utf8;
+        for my $file (@ARGV) {
+            open(my $in, "<:encoding(UTF-8)", $file) or die "$file: $!";
+            my (%imported, $rest);
+            while (<$in>) {
+                s/(--|\/\/) .*//;
+                if (/^(?:ghost )?use [^{;]*\.\{(.*)\};?$/) { $imported{$_} = $. for map { s/.* as //r } split /, /, $1 }
+                elsif (/^(?:ghost )?use .* as (\S+?);?$/ || /^use (?:\S+::)(\w+);$/) { $imported{$1} = $. }
+                else { $rest .= $_ }
+            }
+            my %used = map { $_ => 1 } split(/[\s(){},;.\[\]]+/, $rest), $file =~ /rt$/ ? split(/\W+/, $rest) : ();
+            for my $name (sort keys %imported) {
+                my $sign = $name =~ s/^_|_$//gr;
+                my $there = $name =~ /^\w/ && $name !~ /_$/ ? $used{$name} : index($rest, $sign) >= 0;
+                print "$file:$imported{$name}: $name\n" unless $there;
+            }
+        }' "$@"
+}
+complain "is imported and not used" < <(unused $(files '*.antt') $(files '*.rt'))
 
 # ---- names: a definition of the specs stands in one file of all specs, a type in one file of specs and proofs
 

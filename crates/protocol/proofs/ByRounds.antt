@@ -46,7 +46,7 @@ set-same f (y ∷ ys) (suc w) x e zero = refl
 set-same f (y ∷ ys) (suc w) x e (suc v) = set-same f ys w x e v
 
 ownMove-mark : (o : Own) (w : ℕ) (s : State) (v : ℕ) → mark (ownMove o w s) v ≡ mark s v
-ownMove-mark o w s v = set-same (λ x. x .arrived) (s .workers) w (ownStep (s .memory) o (workerAt s w)) (own-leaves (s .memory) o (workerAt s w)) v
+ownMove-mark o w s v = set-same (λ x. x .arrived) (s .workers) w (ownStep (s .memory) o (workerAt s w)) (own-leaves (s .memory) o (workerAt s w) .arrived) v
 
 arrival-mark : (w : ℕ) (s : State) → w < length (s .workers) → (v : ℕ) → mark (arrival w s) v ≡ (mark s v || member v (w ∷ []))
 unfolding member

@@ -74,6 +74,8 @@ pub mod Sizes
 
 -- Any two machines that take the same turns: what ties their states together is kept.
 pub mod SideBySide
+-- Five: no worker holds a lock twice.
+pub mod Once
 -- Five: a plan that meets neither failure of its locks leaves what it left when they went by count.
 pub mod Naming
 -- Four: whole cycles end every plan; parts back to back; each accepted plan of a call is run to its end.

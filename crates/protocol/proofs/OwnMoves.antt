@@ -147,16 +147,20 @@ own-on plan sound memory o w v e sane g = go o e (inside-steps plan w (v .place)
     go (skipNonzero r k) e l =
         further-on _ v _ sane g g refl (omega arith) (skip (not (eqb (registerOf v r) 0)) k (sound .skipsNonzero w (v .place) r k e)) (omega arith)
 
--- it leaves the mark of arrival
-pub own-leaves : (memory : List ℕ) (o : Own) (v : Worker) → ownStep memory o v .arrived ≡ v .arrived
+-- it leaves the mark of arrival, and the locks
+pub record OwnLeaves (v v′ : Worker) : Type 0 where
+  pub arrived : v′ .arrived ≡ v .arrived
+  pub held : v′ .held ≡ v .held
+
+pub own-leaves : (memory : List ℕ) (o : Own) (v : Worker) → OwnLeaves v (ownStep memory o v)
 unfolding ownStep
-own-leaves memory (assign r k) v = refl
-own-leaves memory (load r k) v = refl
-own-leaves memory (store r k) v = refl
-own-leaves memory (add r k) v = refl
-own-leaves memory (subtract r k) v = refl
-own-leaves memory (skipZero r k) v = refl
-own-leaves memory (skipNonzero r k) v = refl
+own-leaves memory (assign r k) v = record { arrived = refl; held = refl }
+own-leaves memory (load r k) v = record { arrived = refl; held = refl }
+own-leaves memory (store r k) v = record { arrived = refl; held = refl }
+own-leaves memory (add r k) v = record { arrived = refl; held = refl }
+own-leaves memory (subtract r k) v = record { arrived = refl; held = refl }
+own-leaves memory (skipZero r k) v = record { arrived = refl; held = refl }
+own-leaves memory (skipNonzero r k) v = record { arrived = refl; held = refl }
 
 arrival-on : (steps : ℕ) (v : Worker) → Sane steps v → v .fate ≡ going → v .arrived ≡ false → v .place ≤ steps → OneOn steps v (arrivedAs true v)
 arrival-on steps v sane g a in-steps = further-on steps v (arrivedAs true v) sane g g refl (le-refl _) in-steps (rw a (omega arith))

@@ -101,6 +101,10 @@ misnames held (barrier b) = false
 misnames held (startWorker w) = false
 misnames held exit = false
 
+-- "Each worker's record holds the set of its locks": none of them stands twice
+abbrev pub HeldOnce : State → Type 0
+HeldOnce s = (w k : ℕ) → occurs k (workerAt s w .held) ≤ 1
+
 -- "A plan whose round-by-round run meets neither failure": its log, by names, shows no lock and no unlock that failed
 abbrev pub lockFailed : Entry → Bool
 lockFailed e = (eqb (e .op) opLock || eqb (e .op) opUnlock) && eqb (e .outcome) outcomeFailed

@@ -214,12 +214,12 @@ countFrom (suc k) i = i ∷ countFrom k (suc i)
 abbrev pub upTo : ℕ → List ℕ
 upTo k = countFrom k 0
 
--- A plan: the steps of worker 0, 1, .. n − 1, the size of each barrier, and the workers that sleep at first.
 -- Five: "Locks by name." By count is how document 01 had them: "only the count matters, not which lock". That is kept for what Five
 -- promises, that a plan which meets none of its failures leaves what it left by count.
 pub data Discipline : Type 0 where
   byName byCount : Discipline
 
+-- A plan: the steps of worker 0, 1, .. n − 1, the size of each barrier, the workers that sleep at first, and how its locks go.
 pub record Plan : Type 0 where
   pub steps : List (List Step)
   pub sizes : List ℕ
