@@ -13,15 +13,18 @@ unfoldable pub weigh : (ℕ → ℕ) → List ℕ → ℕ
 weigh f [] = 0
 weigh f (k ∷ ks) = f k + weigh f ks
 
--- a mark at the lock's place, and one more above the marks
+-- a mark at the lock's place, and one more for each above the marks
+abbrev pub eachLock : ℕ
+eachLock = 65536
+
 abbrev pub lockWeight : ℕ → ℕ
-lockWeight k = 2 ^ k + 65536
+lockWeight k = 2 ^ k + eachLock
 
 -- the number is the weight of the locks; its marks say which are held, and what stands above them how many
 pub record Shows (n : ℕ) (locks : List ℕ) : Type 0 where
   pub total : n ≡ weigh lockWeight locks
   pub marks : (k : ℕ) → k ≤ lockLimit → n / 2 ^ k % 2 ≡ occurs k locks
-  pub size : n / 65536 ≡ length locks
+  pub size : n / eachLock ≡ length locks
 
 -- the number shows locks, and no more of them than a worker has steps
 pub record Held (n : ℕ) : Type 0 where
