@@ -131,6 +131,8 @@ promises() {
 conventions() {
     changed "specs that import a proof" crates/engine/specs/Moving.antt '2i use Rattle.protocol.proofs.Sound.{Sound}' 'imports a proof' make test-conventions
     changed "a contract that imports a proof" crates/engine/src/sync.rt '/^ghost use/i ghost use Rattle.engine.proofs.Facts.{known};' 'a contract imports a proof' make test-conventions
+    changed "an import that is not used" crates/engine/specs/Moving.antt 's/_+_, _<_}/_+_, _-_, _<_}/' 'is imported and not used: crates/engine/specs/Moving.antt:2: _-_' make test-conventions
+    changed "an import of the code that is not used" crates/engine/src/own.rt 's/^use format::ops;/&\nuse format::fates::GOING;/' 'own.rt:5: GOING' make test-conventions
     changed "a name for two things" crates/decisions/specs/Fates.antt '$a abbrev pub kept : ℕ\nkept = 0' 'stands for two things: kept' make test-conventions
     changed "a type of another's name" crates/decisions/specs/Fates.antt 's/record Freeing/record Syncing/' 'is two types: Syncing' make test-conventions
     changed "a type of the code with a definition's name" crates/token/src/lib.rt 's/^pub struct Round /pub struct State /' 'another one in specs or proofs: State' make test-conventions
@@ -142,6 +144,10 @@ conventions() {
     changed "a limit that the header has otherwise" include/tampermauve.h 's/STEPS_LIMIT 128u/STEPS_LIMIT 127u/' 'a limit of the code' make test-conventions
     changed "a limit that the definitions have otherwise" crates/protocol/specs/Format.antt 's/skipLimit = 127/skipLimit = 126/' 'a limit of the definitions' make test-conventions
     changed "ops that nobody numbers" crates/format/src/ops.rt 's/^pub const/const/' 'none in crates/format/src/ops.rt' make test-conventions
+    changed "an op that the list of points leaves out" crates/format/src/points.rt '/ops::EXIT =>/d' 'not in the list of points, or not at its place in the table: < EXIT' make test-conventions
+    changed "two ops of the list exchanged" crates/format/src/points.rt 's/ops::WAIT/ops::X/; s/ops::SIGNAL/ops::WAIT/; s/ops::X/ops::SIGNAL/' 'not at its place in the table' make test-conventions
+    changed "code that decides by the number" crates/engine/src/own.rt 's/if synchronises(r.op)/if ops::LOCK <= r.op/' 'decides by the number' make test-conventions
+    changed "a definition that decides by the number" crates/engine/specs/Moving.antt 's/pub syncs : synchronises (r .op) ≡ true/pub syncs : opLock ≤ r .op/' 'decides by the number' make test-conventions
     changed "a long line" crates/words/src/lib.rt "1s/^/\/\/ $(printf 'é%.0s' {1..200})\n/" 'above 200 characters: crates/words/src/lib.rt:1' make test-conventions
 }
 

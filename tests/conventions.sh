@@ -4,6 +4,7 @@
 #   - no name stands for two things: a definition in the specs, a type in specs and proofs, a type of the code but for those that are its form of a definition's;
 #   - no number from 3 up stands in the code outside of a constant, a contract or the one match that numbers the refusals, whose names are the
 #     enum's, but for those of `meant` below, each with its reason; ops, fates and outcomes that are 0, 1 or 2 have their names too;
+#   - whether a step synchronises is decided in one place, crates/format/src/points.rt, which has a case for each op of the table, in its order;
 #   - an op has one number and one word in the code, the definitions and the header, and so have the limits of the format;
 #   - no line is longer than 200 characters.
 #
@@ -124,6 +125,15 @@ complain "an op of the code that is not the header's, or the other way round" < 
 complain "an op of the code that is not the definitions', or the other way round" < <(comm -3 <(echo "$ops") <(in_definitions | sort))
 complain "a limit of the code that is not the header's" < <(comm -23 <(in_code limits '' | sort) <(in_header | sort))
 complain "a limit of the definitions that is not the code's" < <(comm -13 <(in_code limits '' | sort) <(limits_defined | sort))
+
+# ---- the list of the ops that synchronise
+
+table_ops() { sed -nE 's/^pub const ([A-Z_]+): u8 = [0-9]+;$/\1/p' crates/format/src/ops.rt | grep -v '_RECORD$'; }
+listed_ops() { sed -nE 's/^ *ops::([A-Z_]+) => (true|false),.*/\1/p' crates/format/src/points.rt; }
+complain "is not in the list of points, or not at its place in the table" < <(diff <(table_ops) <(listed_ops) | grep '^[<>]')
+complain "decides by the number whether an op synchronises" < <(
+    code $(files '*.rt') | grep -E '(<=|>=|<|>) (ops::)?LOCK\b|\b(ops::)?LOCK (<=|>=|<|>) '
+    files '*.antt' | grep /specs/ | xargs grep -nE '(≤|<|leb|ltb) \(?(opLock|32)\b|\b(opLock|32) (≤|<) ')
 
 # ---- lines
 

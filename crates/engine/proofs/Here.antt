@@ -2,12 +2,12 @@
 use Prim.Native.Nat.{ℕ, suc, _+_, _*_, _<_, _≤_}
 use native.Mathlib.Numerals.{add-one}
 use native.Mathlib.Omega.{arith}
-use mathlib.Core.Bool.{true}
+use mathlib.Core.Bool.{true, false}
 use mathlib.Core.Path.{_≡_, sym, ap, _∙_, subst⁻¹}
 use mathlib.Core.List.{List, [], _∷_}
 use lib.ListN.{length, getD, length-append}
-use Rattle.protocol.specs.Ops.{opLock, opStart}
-use Rattle.protocol.specs.Format.{recordLength, recordsLimit, workersLimit, barrierCount, stepsLimit, Plan, Step, own, sync, Sync, records, firstIn, planOf}
+use Rattle.protocol.specs.Ops.{opStart}
+use Rattle.protocol.specs.Format.{recordLength, recordsLimit, workersLimit, barrierCount, stepsLimit, Plan, Step, own, sync, Sync, synchronises, records, firstIn, planOf}
 use Rattle.protocol.specs.Steps as steps
 use Rattle.protocol.specs.Steps.{stepAt}
 use Rattle.protocol.specs.Rounds.{State, workerAt, member, entryOf, apply}
@@ -31,17 +31,16 @@ use Rattle.rules.specs.Codes.{syncOf}
 use Rattle.rules.proofs.Codes.{step-sync}
 use Rattle.moves.specs.Moves.{fetchedAs, stepOfBody, InRange, OwnMoving}
 use Rattle.moves.proofs.Fetched.{fetchable, fetched, in-range}
-use Rattle.moves.proofs.Owned.{own-kind, sync-kind, step-of-own, own-ready}
+use Rattle.moves.proofs.Owned.{step-of-own, own-ready}
 use Rattle.engine.specs.declared.state.Schedule.{Schedule}
 use Rattle.engine.specs.Kept.{Kept, privateOf}
 use Rattle.engine.specs.Moving.{Able, stateOf}
 use Rattle.engine.proofs.Facts as facts
 use Rattle.engine.proofs.Facts.{Holder, holder, ruleAt, applied, hold-core}
 
-step-of-sync : (r : Record) → opLock ≤ r .op → r .op ≤ opStart → stepOfBody r ≡ sync (syncOf (r .op) (r .number))
+step-of-sync : (r : Record) → synchronises (r .op) ≡ true → r .op ≤ opStart → stepOfBody r ≡ sync (syncOf (r .op) (r .number))
 unfolding stepOfBody
-step-of-sync r least most =
-    step-sync (recordOf r) least most
+step-of-sync r syncs last = step-sync (recordOf r) syncs last
 
 member-some-length : (w : ℕ) (ws : List ℕ) → member w ws ≡ true → 0 < length ws
 unfolding member
@@ -144,11 +143,11 @@ module _ {file sizes firsts : List ℕ} {w : ℕ} {t : Schedule} {k : Kept} (a :
         ∙ sym (ap stepOfBody same ∙ fetched file (a .laid .ok) w (getD (k .places) w 0))
         ∙ q
 
-    pub own-here : r .op < opLock → stepAt plan w (workerAt s w .place) ≡ own (ownOf (r .op) (r .register) (r .number))
-    own-here early = step-here (step-of-own r (own-kind range early .0) (own-kind range early .1))
+    pub own-here : synchronises (r .op) ≡ false → stepAt plan w (workerAt s w .place) ≡ own (ownOf (r .op) (r .register) (r .number))
+    own-here owns = step-here (step-of-own r range owns)
 
-    pub sync-here : opLock ≤ r .op → stepAt plan w (workerAt s w .place) ≡ sync (syncOf (r .op) (r .number))
-    sync-here late = step-here (step-of-sync r late (sync-kind range late))
+    pub sync-here : synchronises (r .op) ≡ true → stepAt plan w (workerAt s w .place) ≡ sync (syncOf (r .op) (r .number))
+    sync-here syncs = step-here (step-of-sync r syncs (range .last))
 
-    pub own-fits : r .op < opLock → OwnMoving (privateOf k w) r
-    own-fits early = own-ready (privateOf k w) r range (own-kind range early .0) (own-kind range early .1) place-small
+    pub own-fits : synchronises (r .op) ≡ false → OwnMoving (privateOf k w) r
+    own-fits owns = own-ready (privateOf k w) r range owns place-small

@@ -31,7 +31,6 @@ use Rattle.decisions.specs.Fates.{FatesSettled}
 use Rattle.decisions.specs.Deciding.{Deciding, Decided}
 use Rattle.rules.proofs.Codes.{op-sync, operand-sync}
 use Rattle.moves.specs.Moves.{InRange}
-use Rattle.moves.proofs.Owned.{sync-kind}
 use Rattle.engine.specs.declared.state.Schedule.{Schedule}
 use Rattle.decisions.specs.declared.decision.Decision.{Decision}
 use Rattle.engine.specs.Kept.{Kept, privateOf}
@@ -61,7 +60,7 @@ module _ {r : Record} {w : ℕ} {t : Schedule} {sizes : List ℕ} {k : Kept} (h 
   count = getD (k .held) w 0
 
   step : stepAt plan w (workerAt s w .place) ≡ sync y
-  step = sync-here (h .here) (h .fetched) (h .late)
+  step = sync-here (h .here) (h .fetched) (h .syncs)
 
   in-range : InRange (workersOf plan) (plan .sizes) r
   in-range = range (h .here) (h .fetched)
@@ -74,9 +73,9 @@ module _ {r : Record} {w : ℕ} {t : Schedule} {sizes : List ℕ} {k : Kept} (h 
       record {
         asked =
             record {
-              least = h .late;
-              most = sync-kind in-range (h .late);
-              operand = in-range .object (h .late);
+              syncs = h .syncs;
+              last = in-range .last;
+              operand = in-range .object (h .syncs);
               barrier = λ e. in-range .queue (omega arith) (omega arith);
               target = λ e. omega (arith, in-range .target e, sound a .workers);
               held = held-few a;
@@ -157,8 +156,8 @@ module _ {r : Record} {w : ℕ} {t : Schedule} {sizes : List ℕ} {k : Kept} (h 
         same-entry =
             let q = deciding .asked in
             ap (λ (i : ℕ). entryAs (i + 1) w (r .op) (r .number) outcome) (sym (h .here .refines .rounds))
-            ∙ (ap (λ (i : ℕ). entryAs (s .rounds + 1) w i (r .number) outcome) (sym (op-sync (r .op) (r .number) (q .least) (q .most)))
-            ∙ (ap (λ (i : ℕ). entryAs (s .rounds + 1) w (opOf y) i outcome) (sym (operand-sync (r .op) (r .number) (q .least) (q .most) (in-range .exit)))
+            ∙ (ap (λ (i : ℕ). entryAs (s .rounds + 1) w i (r .number) outcome) (sym (op-sync (r .op) (r .number) (q .syncs) (q .last)))
+            ∙ (ap (λ (i : ℕ). entryAs (s .rounds + 1) w (opOf y) i outcome) (sym (operand-sync (r .op) (r .number) (q .syncs) (q .last) (in-range .exit)))
             ∙ ap (λ (i : ℕ). entryAs (s .rounds + 1) w (opOf y) (operandOf y) i) (same-outcome ∙ (x .carried .outcome ∙ ap (λ (q : rounds.Ruling). q .outcome) ruled))))
 
         same-held : v .held ≡ d .held

@@ -2,14 +2,13 @@
 use Prim.Native.Nat.{ℕ, _+_, _<_}
 use native.Mathlib.Decide.{ℕ-discrete}
 use native.Mathlib.Omega.{arith}
-use mathlib.Core.Bool.{Bool}
+use mathlib.Core.Bool.{Bool, false}
 use mathlib.Core.Path.{_≡_, refl, sym, ap, _∙_, subst⁻¹}
 use mathlib.Core.List.{List}
 use lib.ListN.{length, getD, set, length-set}
 use lib.Seq.{getD-set-same, getD-set-other}
 use Rattle.protocol.specs.Calls.{memoryLength, workLength}
-use Rattle.protocol.specs.Ops.{opLock}
-use Rattle.protocol.specs.Format.{Own, Step, planOf}
+use Rattle.protocol.specs.Format.{Own, Step, synchronises, planOf}
 use Rattle.protocol.specs.Steps as steps
 use Rattle.protocol.specs.Steps.{newWorker, fateAs, ownStep}
 use Rattle.protocol.specs.Rounds.{State, workerAt, workerMoved, ownMove}
@@ -46,7 +45,7 @@ ownKept k w v copied work =
     kept (set (k .places) w (v .place)) (k .held) (set (k .registers) w (v .registers)) (k .fates) (k .can) copied (k .memory) (k .log) work
 
 module _ {file sizes firsts : List ℕ} {w : ℕ} {t : Schedule} {k : Kept} (a : Able file sizes firsts w t k)
-    {r : Record} (e : r ≡ fetchedAs file (getD firsts w 0) (getD firsts (w + 1) 0) (getD (k .places) w 0)) (early : r .op < opLock)
+    {r : Record} (e : r ≡ fetchedAs file (getD firsts w 0) (getD firsts (w + 1) 0) (getD (k .places) w 0)) (owns : synchronises (r .op) ≡ false)
     {v : Worker} {copied : List Bool} {work : List ℕ} (m : OwnMoved (privateOf k w) r w (k .memory) (k .copied) (k .work) copied work v) where
   abbrev s : State
   s = stateOf a
@@ -131,4 +130,4 @@ module _ {file sizes firsts : List ℕ} {w : ℕ} {t : Schedule} {k : Kept} (a :
   unfolding move
   own-simulates =
       subst⁻¹ (λ (q : Step). Refines (workersOf (planOf file)) (moveBy (planOf file) q (workerAt s w .arrived) w s) (movesAs t (t .counts .moves + 1)) k′)
-      (own-here a e early) refined
+      (own-here a e owns) refined

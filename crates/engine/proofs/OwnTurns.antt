@@ -9,8 +9,7 @@ use mathlib.Core.Path.{_≡_, sym, ap, _∙_, subst, subst⁻¹}
 use mathlib.Core.List.{List, [], _∷_, _++_, append-assoc, append-nil}
 use lib.ListN.{length, getD, take, drop}
 use lib.Seq.{slice, slice-empty, take-suc, drop-append-le, length-take-le}
-use Rattle.protocol.specs.Ops.{opLock}
-use Rattle.protocol.specs.Format.{planOf}
+use Rattle.protocol.specs.Format.{synchronises, planOf}
 use Rattle.protocol.specs.Turns.{workersOf}
 use Rattle.protocol.specs.Calls.{playedFrom}
 use Rattle.plan.specs.declared.decode.Record.{Record}
@@ -88,18 +87,18 @@ module _ {file firsts turns : List ℕ} {from made : ℕ} {k : List ℕ → List
           → ((fates log : List ℕ)
           → (r ≡ fetchedAs file (getD firsts (getD turns i 0) 0) (getD firsts (getD turns i 0 + 1) 0) (getD (k′ fates log .places) (getD turns i 0) 0))
           × OwnMoved (privateOf (k′ fates log) (getD turns i 0)) r (getD turns i 0) (k′ fates log .memory) (k′ fates log .copied) (k′ fates log .work) copied work v)
-          → r .op < opLock
+          → synchronises (r .op) ≡ false
           → count ≡ moves + 1
           → SoFar file firsts turns from made k (i + 1) count (λ fates log. ownKept (k′ fates log) (getD turns i 0) v copied work)
       unfolding here able-here
-      moves-on {r} {v} {copied} {work} {count} step early q =
+      moves-on {r} {v} {copied} {work} {count} step owns q =
           record {
             forward = let f = so .forward in omega arith;
             within = omega arith;
             refines = λ h.
                 onto h l
                 (moved (h .named) (h .start) _ (getD turns i 0) (h .named .below i l) (so .refines h) (can (h .fates) (h .log))
-                (rw q (own-simulates (here h) (step (h .fates) (h .log) .0) early (step (h .fates) (h .log) .1))));
+                (rw q (own-simulates (here h) (step (h .fates) (h .log) .0) owns (step (h .fates) (h .log) .1))));
           }
 
   -- turns that pass, so many in a row

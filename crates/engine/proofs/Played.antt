@@ -180,7 +180,7 @@ module _ {file : List ℕ} {n : ℕ} {sizes firsts first turns : List ℕ} {whol
             firsts = firsts;
             here = able-here (p .named) memory (s .played) (getD turns i 0) (p .named .below i l) (s .refines) (stop .able);
             fetched = stop .fetched;
-            late = stop .late;
+            syncs = stop .syncs;
           }
 
       module _ {t′ : Schedule} {k′ : Kept} (done : Synced r (getD turns i 0) t sizes k t′ k′) where

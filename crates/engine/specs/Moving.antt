@@ -1,11 +1,10 @@
 -- What a synchronising move takes and leaves: values that show a state in which worker w can move, and then the state after its move.
-use Prim.Native.Nat.{ℕ, _+_, _≤_, _<_}
+use Prim.Native.Nat.{ℕ, _+_, _<_}
 use mathlib.Core.Bool.{true}
 use mathlib.Core.Path.{_≡_}
 use mathlib.Core.List.{List}
 use lib.ListN.{getD}
-use Rattle.protocol.specs.Ops.{opLock}
-use Rattle.protocol.specs.Format.{workersLimit, barrierCount, Plan, planOf, records, sizeIn, firstIn}
+use Rattle.protocol.specs.Format.{workersLimit, barrierCount, synchronises, Plan, planOf, records, sizeIn, firstIn}
 use Rattle.protocol.specs.Refusals.{check, accepted}
 use Rattle.protocol.specs.Rounds.{State}
 use Rattle.protocol.specs.Turns.{workersOf, can, move}
@@ -40,7 +39,7 @@ pub record Syncing (r : Record) (w : ℕ) (t : Schedule) (sizes : List ℕ) (k :
   pub firsts : List ℕ
   pub here : Able file sizes firsts w t k
   pub fetched : r ≡ fetchedAs file (getD firsts w 0) (getD firsts (w + 1) 0) (getD (k .places) w 0)
-  pub late : opLock ≤ r .op
+  pub syncs : synchronises (r .op) ≡ true
 
 -- the values show the state after a worker's move, and the sum is moved by as much as the move's commit says
 pub record AfterMove (plan : Plan) (s : State) (w : ℕ) (t t′ : Schedule) (k′ : Kept) : Type 0 where

@@ -6,8 +6,7 @@ use mathlib.Core.List.{List, [], _++_}
 use lib.Dec.{eqb}
 use lib.ListN.{length, getD}
 use lib.Seq.{slice}
-use Rattle.protocol.specs.Ops.{opLock}
-use Rattle.protocol.specs.Format.{workersLimit, upTo, records, sleepersIn, planOf}
+use Rattle.protocol.specs.Format.{workersLimit, synchronises, upTo, records, sleepersIn, planOf}
 use Rattle.protocol.specs.Rounds.{keep}
 use Rattle.protocol.specs.Turns.{workersOf, start as begin, ended}
 use Rattle.protocol.specs.Sum.{sumOf, keptSum}
@@ -66,7 +65,7 @@ pub record Turning (file firsts turns : List ℕ) (i made : ℕ) (k : List ℕ �
 pub record Stopped (file firsts turns : List ℕ) (i : ℕ) (k : Kept) (r : Record) : Type 0 where
   pub able : getD (k .can) (getD turns i 0) false ≡ true
   pub fetched : r ≡ fetchedAs file (getD firsts (getD turns i 0) 0) (getD firsts (getD turns i 0 + 1) 0) (getD (k .places) (getD turns i 0) 0)
-  pub late : opLock ≤ r .op
+  pub syncs : synchronises (r .op) ≡ true
 
 -- the values show the state after the turns from there up to the one that is reached
 pub record Turned (file firsts turns : List ℕ) (from made : ℕ) (k : List ℕ → List ℕ → Kept) (r : Reached) (k′ : List ℕ → List ℕ → Kept) : Type 0 where

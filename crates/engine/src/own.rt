@@ -2,6 +2,7 @@
 use crate::state::Reached;
 use format::limits::WORKERS_LIMIT;
 use format::ops;
+use format::points::synchronises;
 use moves::fetch;
 use moves::own_move;
 use pages::SLOTS;
@@ -42,7 +43,7 @@ pub fn play_own(
         if can[w] {
             let place = places[w];
             let r = fetch(file, firsts[w], firsts[w + 1], place);
-            if ops::LOCK <= r.op {
+            if synchronises(r.op) {
                 return Reached {
                     turn: i,
                     moves,

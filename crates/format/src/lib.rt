@@ -3,4 +3,5 @@
 pub mod fates;
 pub mod limits;
 pub mod ops;
+pub mod points;
 pub mod table;

@@ -19,7 +19,7 @@ pub const SKIP_ZERO: u8 = 21;
 
 pub const SKIP_NONZERO: u8 = 22;
 
-// From here on ops synchronise.
+// Those of the steps that synchronise: the list is in points.rt.
 pub const LOCK: u8 = 32;
 
 pub const UNLOCK: u8 = 33;

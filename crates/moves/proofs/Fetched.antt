@@ -1,7 +1,6 @@
 -- The step at a worker's place. Callers want `fetched`, `in-range` and what comes before them in the last module.
 use Prim.Native.Nat.{ℕ, zero, suc, _+_, _*_, _<_, _≤_}
 use mathlib.Core.Bool.{Bool, true, false, not, _&&_}
-use mathlib.Core.Logic.{inl, inr}
 use mathlib.Core.Option.{some}
 use mathlib.Core.Path.{_≡_, refl, sym, ap, _∙_, subst⁻¹}
 use mathlib.Core.List.{List}
@@ -10,7 +9,7 @@ use native.Mathlib.Decide.{decLt}
 use lib.Dec.{eqb}
 use lib.ListN.{length, getD, List·getD-eq-default}
 use borrow.Author.Tests.{lt-ltb, le-ltb, eq-eqb, eqb-false, not-true, not-false}
-use Rattle.protocol.specs.Ops.{opSet, opLoad, opStore, opAdd, opSubtract, opSkipZero, opSkipNonzero, opLock, opWait, opBarrier, opExit, opStart}
+use Rattle.protocol.specs.Ops.{opSet, opLoad, opStore, opAdd, opSubtract, opSkipZero, opSkipNonzero, opWait, opBarrier, opExit, opStart, syncsFrom}
 use Rattle.protocol.specs.Format as format
 use Rattle.protocol.specs.Format.{registerCount, stepsLimit, Row, table, rowIn, isStep, recordFrom, recordsFrom, recordCount, records, Step, sync, exit, stepOf}
 use Rattle.protocol.specs.Format.{stepsIn, sizeIn, firstIn, planOf, barrierCount, recordLength, sizeLimit, recordsLimit, addressLimit, lockLimit}
@@ -21,6 +20,7 @@ use Rattle.protocol.proofs.Bools.{and-left}
 use Rattle.protocol.proofs.Covered.{operands-inside}
 use Rattle.protocol.proofs.Records.{names, first-inside}
 use Rattle.protocol.proofs.Tabled.{Every, row-of}
+use Rattle.protocol.proofs.Points.{from-first, before-first}
 use Rattle.protocol.specs.WellFormed.{blank}
 use Rattle.protocol.proofs.Accepted.{AcceptedFile, accepted-file, length-records, workers-of, steps-of, size-of}
 use Rattle.plan.specs.Answer.{bodyOf}
@@ -48,12 +48,12 @@ step-end = refl
 record Ranged (x : Row) : Type 0 where
   least : opSet ≤ x .op
   most : x .op ≤ opStart
-  apart : x .op < opLock → x .op ≤ opSkipNonzero
+  apart : x .op < syncsFrom → x .op ≤ opSkipNonzero
   named : x .op ≤ opSkipNonzero → x .registers < registerCount
   address : opLoad ≤ x .op → x .op ≤ opStore → x .most ≤ addressLimit
   operand : opAdd ≤ x .op → x .op ≤ opSubtract → x .most < registerCount
   skip : opSkipZero ≤ x .op → x .op ≤ opSkipNonzero → (1 ≤ x .least) × (x .most < stepsLimit)
-  object : opLock ≤ x .op → x .most ≤ lockLimit
+  object : syncsFrom ≤ x .op → x .most ≤ lockLimit
   queue : opWait ≤ x .op → x .op ≤ opBarrier → x .most < barrierCount
   exit : x .op ≡ opExit → x .most ≡ 0
 
@@ -75,16 +75,13 @@ ranged n sizes r step fits sized =
     let high = inside .most in
     let queue : opWait ≤ r .op → r .op ≤ opBarrier → r .number < barrierCount = λ l m. let k = h .queue (omega arith) (omega arith) in omega arith in
     record {
-      kind =
-          elim (decLt (r .op) opLock) [
-            | yes l ↦ let m = h .apart (omega arith) in let k = h .least in inl (omega arith)
-            | no l ↦ let k = h .most in inr (omega arith)
-          ];
+      own = λ e. let early = before-first e in let m = h .apart (omega arith) in let k = h .least in omega arith;
+      last = let k = h .most in omega arith;
       named = λ l. let k = h .named (omega arith) in omega arith;
       address = λ l m. let k = h .address (omega arith) (omega arith) in omega arith;
       operand = λ l m. let k = h .operand (omega arith) (omega arith) in omega arith;
       skip = λ l m. let k = h .skip (omega arith) (omega arith) in omega arith;
-      object = λ l. let k = h .object (omega arith) in omega arith;
+      object = λ e. let late = from-first e in let k = h .object (omega arith) in omega arith;
       queue = queue;
       exit = λ e. let k = h .exit (omega arith) in omega arith;
       target = inside .target;
@@ -94,12 +91,13 @@ ranged n sizes r step fits sized =
 ranged-end : (n : ℕ) (sizes : List ℕ) → InRange n sizes endBody
 ranged-end n sizes =
     record {
-      kind = inr (omega arith);
+      own = λ e. let early = before-first e in absurd (omega arith);
+      last = omega arith;
       named = λ l. omega arith;
       address = λ l m. omega arith;
       operand = λ l m. omega arith;
       skip = λ l m. omega arith;
-      object = λ l. omega arith;
+      object = λ e. omega arith;
       queue = λ l m. omega arith;
       exit = λ e. refl;
       target = λ e. absurd (omega arith);

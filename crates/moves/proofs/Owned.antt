@@ -1,15 +1,13 @@
--- The laws of an own step on the lent bytes. Callers want `own-kind`, `sync-kind`, `own-ready` and `step-of-own`.
-use Prim.Native.Nat.{ℕ, _≤_, _<_}
+-- The laws of an own step on the lent bytes. Callers want `own-ready` and `step-of-own`.
+use Prim.Native.Nat.{ℕ, _≤_}
 use mathlib.Core.Bool.{Bool, true, false, cond}
-use mathlib.Core.Logic.{⊎-elim}
 use mathlib.Core.Path.{_≡_, refl, sym, ap, _∙_, subst⁻¹}
 use mathlib.Core.List.{List, []}
-use native.Mathlib.Omega.{arith}
 use lib.Dec.{eqb}
 use lib.ListN.{length}
 use borrow.Author.Tests.{eq-eqb, ne-eqb}
-use Rattle.protocol.specs.Ops.{opSet, opLoad, opStore, opAdd, opSubtract, opSkipZero, opSkipNonzero, opLock, opStart}
-use Rattle.protocol.specs.Format.{stepsLimit, Own, assign, load, store, add, subtract, skipZero, skipNonzero, own}
+use Rattle.protocol.specs.Ops.{opLoad, opStore, opAdd, opSubtract, opSkipZero, opSkipNonzero}
+use Rattle.protocol.specs.Format.{stepsLimit, Own, assign, load, store, add, subtract, skipZero, skipNonzero, own, synchronises}
 use Rattle.protocol.specs.Pages.{Copies, loadWord}
 use Rattle.protocol.specs.Steps as steps
 use Rattle.protocol.specs.Steps.{Fate, going, ownStep}
@@ -23,26 +21,20 @@ use Rattle.worker.specs.declared.Moved.{Moved}
 use Rattle.worker.specs.declared.Outcome.{Outcome}
 use Rattle.moves.specs.Moves.{stepOfBody, InRange, OwnMoving, copiesLeft, OwnMoved}
 
--- an op below the first that synchronises is an own step's, any other a synchronising step's
-pub own-kind : {n : ℕ} {sizes : List ℕ} {r : Record} → InRange n sizes r → r .op < opLock → (opSet ≤ r .op) × (r .op ≤ opSkipNonzero)
-own-kind i h = ⊎-elim (λ k. k) (λ k. absurd (omega arith)) (i .kind)
-
-pub sync-kind : {n : ℕ} {sizes : List ℕ} {r : Record} → InRange n sizes r → opLock ≤ r .op → r .op ≤ opStart
-sync-kind i h = ⊎-elim (λ k. absurd (omega arith)) (λ k. k .1) (i .kind)
-
-pub step-of-own : (r : Record) → opSet ≤ r .op → r .op ≤ opSkipNonzero → stepOfBody r ≡ own (ownOf (r .op) (r .register) (r .number))
+-- the step of a record in range that does not synchronise
+pub step-of-own : {n : ℕ} {sizes : List ℕ} (r : Record) → InRange n sizes r → synchronises (r .op) ≡ false → stepOfBody r ≡ own (ownOf (r .op) (r .register) (r .number))
 unfolding stepOfBody
-step-of-own r least most =
-    step-own (recordOf r) least most
+step-of-own r i e = step-own (recordOf r) (i .own e .0) (i .own e .1)
 
--- a record in range and a worker within its steps
-pub own-ready : {n : ℕ} {sizes : List ℕ} (v : Worker) (r : Record) → InRange n sizes r → opSet ≤ r .op → r .op ≤ opSkipNonzero → v .place ≤ stepsLimit → OwnMoving v r
-own-ready v r i least most place =
+-- .. by a worker within its steps
+pub own-ready : {n : ℕ} {sizes : List ℕ} (v : Worker) (r : Record) → InRange n sizes r → synchronises (r .op) ≡ false → v .place ≤ stepsLimit → OwnMoving v r
+own-ready v r i e place =
+    let most = i .own e .1 in
     record {
       ready =
           record {
             place = place;
-            least = least;
+            least = i .own e .0;
             most = most;
             named = i .named most;
             operand = i .operand;

@@ -1,13 +1,12 @@
 -- The record of the step at a worker's place, and what an own step leaves.
 use Prim.Native.Nat.{ℕ, _+_, _*_, _≤_, _<_}
-use mathlib.Core.Bool.{Bool, cond}
-use mathlib.Core.Logic.{_⊎_}
+use mathlib.Core.Bool.{Bool, true, false, cond}
 use mathlib.Core.Path.{_≡_}
 use mathlib.Core.List.{List}
 use lib.Dec.{eqb, ltb}
 use lib.ListN.{length, getD}
-use Rattle.protocol.specs.Ops.{opSet, opLoad, opStore, opAdd, opSubtract, opSkipZero, opSkipNonzero, opLock, opWait, opBarrier, opExit, opStart}
-use Rattle.protocol.specs.Format.{recordLength, registerCount, stepsLimit, barrierCount, sizeLimit, addressLimit, lockLimit, recordFrom, Step, stepOf}
+use Rattle.protocol.specs.Ops.{opSet, opLoad, opStore, opAdd, opSubtract, opSkipZero, opSkipNonzero, opWait, opBarrier, opExit, opStart}
+use Rattle.protocol.specs.Format.{recordLength, registerCount, stepsLimit, barrierCount, sizeLimit, addressLimit, lockLimit, recordFrom, Step, stepOf, synchronises}
 use Rattle.protocol.specs.Steps.{Fate, ownStep}
 use Rattle.protocol.specs.Pages.{Copies, loadWord}
 use Rattle.plan.specs.Answer.{bodyOf, recordOf}
@@ -32,12 +31,13 @@ stepOfBody r = stepOf (recordOf r)
 
 -- what the record of a step is like, by the table's ranges, in a plan of n workers; `sizes` has the size of each barrier
 pub record InRange (n : ℕ) (sizes : List ℕ) (r : Record) : Type 0 where
-  pub kind : ((opSet ≤ r .op) × (r .op ≤ opSkipNonzero)) ⊎ ((opLock ≤ r .op) × (r .op ≤ opStart))
+  pub own : synchronises (r .op) ≡ false → (opSet ≤ r .op) × (r .op ≤ opSkipNonzero)
+  pub last : r .op ≤ opStart
   pub named : r .op ≤ opSkipNonzero → r .register < registerCount
   pub address : opLoad ≤ r .op → r .op ≤ opStore → r .number ≤ addressLimit
   pub operand : opAdd ≤ r .op → r .op ≤ opSubtract → r .number < registerCount
   pub skip : opSkipZero ≤ r .op → r .op ≤ opSkipNonzero → (1 ≤ r .number) × (r .number < stepsLimit)
-  pub object : opLock ≤ r .op → r .number ≤ lockLimit
+  pub object : synchronises (r .op) ≡ true → r .number ≤ lockLimit
   pub queue : opWait ≤ r .op → r .op ≤ opBarrier → r .number < barrierCount
   pub exit : r .op ≡ opExit → r .number ≡ 0
   pub target : r .op ≡ opStart → r .number < n

@@ -1,4 +1,5 @@
--- Cases 1 to 10 and those behind them, the calls with several plans, and the plans of Five by count: the definitions yield the tables.
+-- Cases 1 to 10 and those behind them, the calls with several plans, the plans of Five by count, and each op of Six: the definitions yield the
+-- tables.
 use mathlib.Core.Path.{_≡_, refl}
 use mathlib.Core.List.{map}
 use Rattle.protocol.specs.Format.{recordFrom, recordsFrom, recordCount, records, rowIn, known, stepOf, sizeIn, sleepersIn, stepsIn, countFrom, planIn}
@@ -13,7 +14,7 @@ use Rattle.protocol.specs.Report.{logBytes, allFinal, endOf, fateByte, r
 use Rattle.protocol.specs.Calls.{runVerdict, lentLog, run}
 use Rattle.protocol.specs.Listing.{cycles}
 use Rattle.protocol.specs.Batch.{lengthAt, beginsAt, fileAt, partAt, partAs, batchVerdict, runPlans, runAll}
-use Rattle.protocol.proofs.Table.{turnsOf, padded, lentTo, yields, expected, expects, cases, countedCases, yieldsCounted}
+use Rattle.protocol.proofs.Table.{turnsOf, padded, lentTo, yields, expected, expects, cases, points, countedCases, yieldsCounted}
 use Rattle.protocol.proofs.BatchTable.{joined, batchLent, batchLeft, yieldsAll, expectsAll, batches}
 
 pub cases-hold : map yields cases ≡ map expects cases
@@ -30,6 +31,13 @@ unfolding recordFrom recordsFrom recordCount records rowIn known stepOf sizeIn s
     sumOf logBytes allFinal endOf fateByte reportBytes runVerdict lentLog run cycles padded
     lengthAt beginsAt fileAt partAt partAs batchVerdict runPlans runAll joined batchLent batchLeft yieldsAll expectsAll batches
 batches-hold = refl
+
+pub points-hold : map yields points ≡ map expects points
+unfolding recordFrom recordsFrom recordCount records rowIn known stepOf sizeIn sleepersIn stepsIn countFrom planIn anyOf lengthRule planRule
+    barrierRecordRule sleepRecordRule operandsOutside stepRule laterRule recordRule skipRule checkSkips checkRecords check page noCopies loadByte loadWord storeByte storeWord
+    newWorker ownStep keep member start allArrived can move turn play
+    sumOf logBytes allFinal endOf fateByte reportBytes runVerdict lentLog run turnsOf padded lentTo yields expected expects points
+points-hold = refl
 
 pub counted-hold : map yieldsCounted countedCases ≡ map expects countedCases
 unfolding recordFrom recordsFrom recordCount records rowIn known stepOf sizeIn sleepersIn stepsIn countFrom planIn page noCopies storeByte storeWord

@@ -20,6 +20,8 @@ pub mod Tabled
 pub mod Sound
 -- What an accepted file is, and that its plan is sound.
 pub mod Accepted
+-- Six: which ops synchronise, by their number and by their step.
+pub mod Points
 -- A refusal's number is never 0.
 pub mod Numbered
 -- The rule of a record names the first of the record's tests that is due.

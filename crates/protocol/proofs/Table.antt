@@ -8,9 +8,9 @@ use Rattle.protocol.specs.RoundRun.{roundRun}
 use Rattle.protocol.specs.Listing.{listedTurns}
 use Rattle.protocol.specs.Calls.{memoryLength, logLength, reportLength, workLength, Buffers, Reply, buffersOf, playedFrom, run}
 
--- "Turns are the listing program's, save in case 10." That has no turns.
+-- "Turns are the listing program's, save in case 10." That has no turns. Those of Six have three of worker 0.
 pub data Fed : Type 0 where
-  listing nothing : Fed
+  listing nothing thrice : Fed
 
 pub record Case : Type 0 where
   pub file : List ℕ
@@ -23,7 +23,7 @@ pub record Case : Type 0 where
   pub report : List ℕ
 
 unfoldable pub turnsOf : Case → List ℕ
-turnsOf c = elim (c .fed) [ listing ↦ listedTurns (planOf (c .file)) | nothing ↦ [] ]
+turnsOf c = elim (c .fed) [ listing ↦ listedTurns (planOf (c .file)) | nothing ↦ [] | thrice ↦ replicate 3 0 ]
 
 -- bytes, then zeros
 unfoldable pub padded : ℕ → List ℕ → List ℕ
@@ -46,6 +46,7 @@ yields c =
     ∷ elim (c .fed) [
       | listing ↦ record { returned = 0; buffers = buffersOf (roundRun (planOf (c .file)) (lentTo c .memory)) } ∷ []
       | nothing ↦ []
+      | thrice ↦ []
     ]
 
 unfoldable pub expected : Case → Reply
@@ -57,7 +58,7 @@ expected c =
     }
 
 unfoldable pub expects : Case → List Reply
-expects c = expected c ∷ elim (c .fed) [ listing ↦ expected c ∷ [] | nothing ↦ [] ]
+expects c = expected c ∷ elim (c .fed) [ listing ↦ expected c ∷ [] | nothing ↦ [] | thrice ↦ [] ]
 
 -- a record of a plan file
 abbrev pub rec : ℕ → ℕ → ℕ → ℕ → List ℕ
@@ -289,6 +290,33 @@ cases =
     (entry 1 0 32 1 1 ++ entry 1 0 32 2 2 ++ entry 1 0 34 0 255 ++ entry 1 1 32 1 1 ++ entry 1 1 35 0 0 ++ entry 1 1 33 1 0
     ++ entry 1 0 33 1 1 ++ entry 1 0 33 2 0 ++ leave (1 ∷ 0 ∷ []))
     (report 1 2 14 2 10 (both 1 1) (small 0))
+    ∷ []
+
+-- Six: worker 0 has this step and then an exit, the other worker none. Of three turns of worker 0 a step of its own moves, and its arrival at
+-- the exit; a step that synchronises is its arrival, and no turn behind it moves. Address 0 holds 5, and nothing is committed.
+abbrev point : ℕ → ℕ → ℕ → ℕ → Case
+point op register number moves =
+    case (planRec 2 ++ rec 0 1 0 2 ++ rec 0 op register number ++ rec 0 38 0 0) (5 ∷ []) thrice (5 ∷ []) []
+    (report 0 2 moves 0 0 (both 0 0) (small 5))
+
+-- "one for each op", in the order of the table
+unfoldable pub points : List Case
+points =
+    point 16 0 7 2
+    ∷ point 17 0 0 2
+    ∷ point 18 0 0 2
+    ∷ point 19 0 1 2
+    ∷ point 20 0 1 2
+    ∷ point 21 0 1 2
+    ∷ point 22 0 1 2
+    ∷ point 32 0 0 1
+    ∷ point 33 0 0 1
+    ∷ point 34 0 0 1
+    ∷ point 35 0 0 1
+    ∷ point 36 0 0 1
+    ∷ point 37 0 0 1
+    ∷ point 38 0 0 1
+    ∷ point 39 0 1 1
     ∷ []
 
 -- What document 01 says of the two plans that fail: "Only the count matters, not which lock."

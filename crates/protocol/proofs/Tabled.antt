@@ -1,6 +1,6 @@
 -- The paper's table of steps: of every row, what its step is. One law over the rows.
 -- Ops stand outside the table in `Format.isSkip`, in `Rounds.opOf`, in `ownOf` of crate worker and in `syncOf` of crate rules: `step-op` ties
--- `opOf` to the table, `step-skip` ties `isSkip`; `step-of-own` (moves/proofs/Owned) and `step-of-sync` (engine/proofs/Stepping) the other two.
+-- `opOf` to the table, `step-skip` ties `isSkip`; `step-of-own` (moves/proofs/Owned) and `step-of-sync` (engine/proofs/Here) the other two.
 use Prim.Native.Nat.{ℕ}
 use mathlib.Core.Bool.{Bool, true, false, cond, false≢true}
 use mathlib.Core.Path.{_≡_, refl, ap, _∙_}

@@ -1,14 +1,17 @@
 -- Demand 3: the outcome does not hang on who moved first. What is claimed, of the definitions and of the bytes that a run leaves. And
--- document 02, Three, of the sum, Four, of many plans, and Five, of locks by name.
+-- document 02, Three, of the sum, Four, of many plans, Five, of locks by name, and Six, of which steps synchronise.
 use Prim.Native.Nat.{ℕ, zero, suc, _+_, _-_, _<_, _≤_}
 use mathlib.Core.Bool.{Bool, true, false, cond, not, _&&_, _||_}
 use mathlib.Core.Path.{_≡_}
 use mathlib.Core.List.{List, [], _∷_, _++_}
-use lib.Dec.{eqb}
+use lib.Dec.{leb, eqb}
 use lib.ListN.{length, getD, replicate}
-use Rattle.protocol.specs.Ops.{opLock, opUnlock}
+use Rattle.protocol.specs.Ops.{opLock, opUnlock, syncsFrom}
 use Rattle.protocol.specs.Format.{word, longAt, Sync, lock, unlock, wait, signal, broadcast, barrier, startWorker, exit, byName, Plan, countingLocks, planOf}
+use Rattle.protocol.specs.Format.{records, firstIn, syncs, synchronises}
 use Rattle.protocol.specs.Refusals.{Refusal, numberOf, accepted, refused, check}
+use Rattle.protocol.specs.WellFormed.{recordAt}
+use Rattle.protocol.specs.Steps.{stepsOf, stepAt}
 use Rattle.protocol.specs.Rounds.{Entry, State, workerAt, queueOf, fateIn, outcomeFailed, lockFails, unlockFails, ruleOf, entryOf}
 use Rattle.protocol.specs.Turns.{workersOf, start, movingTurns, ended}
 use Rattle.protocol.specs.RoundRun.{moveLimit, roundRun}
@@ -127,3 +130,14 @@ pub record AsByCount (plan : Plan) (lent turns : List ℕ) : Type 0 where
 -- .. and of the bytes that an accepted run leaves
 abbrev pub LeftAsByCount : Plan → List ℕ → List ℕ → Buffers → Type 0
 LeftAsByCount plan lent turns left = left ≡ buffersOf (playedFrom (countingLocks plan) lent turns)
+
+-- Six: "The promise is the same for every byte: from 32 up it synchronises, below it doesn't, bytes that name no op included." Of every number
+abbrev pub SyncsByNumber : ℕ → Type 0
+SyncsByNumber o = synchronises o ≡ leb syncsFrom o
+
+-- .. and of an accepted file's steps: the step at a worker's place synchronises just when the op of its record does
+abbrev pub SyncsByStep : List ℕ → Type 0
+SyncsByStep file =
+    (w k : ℕ)
+    → k < length (stepsOf (planOf file) w)
+    → synchronises (recordAt (records file) (firstIn (records file) w + k) .op) ≡ syncs (stepAt (planOf file) w k)

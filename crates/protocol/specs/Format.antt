@@ -1,4 +1,4 @@
--- Document 01, "Plan file", and document 02, One: records of 7 bytes, the table of steps, and the plan that a file holds.
+-- Document 01, "Plan file", and document 02, One, Five and Six: records of 7 bytes, the table of steps, and the plan that a file holds.
 use Prim.Native.Nat.{ℕ, zero, suc, _+_, _-_, _*_, _/_}
 use mathlib.Core.Bool.{Bool, true, false, cond, _&&_, _||_}
 use mathlib.Core.List.{List, [], _∷_, map}
@@ -6,7 +6,7 @@ use mathlib.Core.Option.{Option, none, some}
 use lib.Dec.{leb, eqb}
 use lib.ListN.{length, getD}
 use Rattle.protocol.specs.Ops.{opBarrierRecord, opSleepRecord, opSet, opLoad, opStore, opAdd, opSubtract, opSkipZero, opSkipNonzero}
-use Rattle.protocol.specs.Ops.{opLock, opUnlock, opWait, opSignal, opBroadcast, opBarrier, opExit, opStart}
+use Rattle.protocol.specs.Ops.{opLock, opUnlock, opWait, opSignal, opBroadcast, opBarrier, opExit, opStart, syncsFrom}
 
 -- "Two-byte numbers are low byte first."
 abbrev pub word : ℕ → ℕ → ℕ
@@ -95,7 +95,7 @@ recordCount file = length file / recordLength
 unfoldable pub records : List ℕ → List Record
 records file = recordsFrom file (recordCount file) 0
 
--- The steps. Those below 32 are the worker's own, "ops 32 and up synchronise".
+-- The steps: a worker's own, and those that synchronise.
 -- A register comes first, then the table's number; of a synchronising step there is the number alone.
 pub data Own : Type 0 where
   assign load store add subtract skipZero skipNonzero : ℕ → ℕ → Own
@@ -159,6 +159,20 @@ known o = elim (rowOf o) [ none ↦ false | some x ↦ true ]
 
 unfoldable pub stepOf : Record → Step
 stepOf r = elim (rowOf (r .op)) [ none ↦ sync exit | some x ↦ x .step (r .register) (r .number) ]
+
+-- whether a step synchronises, as its kind says
+abbrev pub syncs : Step → Bool
+syncs (own o) = false
+syncs (sync y) = true
+
+-- Six, "Which steps synchronise, as a list": whether an op does. The list is the table, in which each op stands with its step; "bytes that
+-- name no op included": they go by their number.
+abbrev pub syncsBy : Option Row → ℕ → Bool
+syncsBy none o = leb syncsFrom o
+syncsBy (some x) o = syncs (x .step 0 0)
+
+unfoldable pub synchronises : ℕ → Bool
+synchronises o = syncsBy (rowOf o) o
 
 abbrev pub isBarrier : Record → Bool
 isBarrier r = eqb (r .op) opBarrierRecord

@@ -31,7 +31,7 @@ opSkipZero = 21
 abbrev pub opSkipNonzero : ℕ
 opSkipNonzero = 22
 
--- "Ops 32 and up synchronise."
+-- the ops of the steps that synchronise
 abbrev pub opLock : ℕ
 opLock = 32
 
@@ -55,3 +55,7 @@ opExit = 38
 
 abbrev pub opStart : ℕ
 opStart = 39
+
+-- Six, of "bytes that name no op": "from 32 up it synchronises, below it doesn't"
+abbrev pub syncsFrom : ℕ
+syncsFrom = 32

@@ -7,11 +7,12 @@ use mathlib.Core.Bool.{Bool, true, false, cond, not}
 use mathlib.Core.Option.{none, some}
 use mathlib.Core.Path.{_≡_, refl}
 use lib.Dec.{ltb, eqb}
-use Rattle.protocol.specs.Ops.{opLock, opStart}
-use Rattle.protocol.specs.Format.{Record, rowIn, rowOf, stepOf, sync, exit}
+use Rattle.protocol.specs.Ops.{opStart}
+use Rattle.protocol.specs.Format.{Record, rowIn, rowOf, stepOf, sync, exit, synchronises}
 use Rattle.protocol.specs.Steps.{QueueName, onCondition, atBarrier, Fate, going, exited, failed, asleep, waiting}
 use Rattle.protocol.specs.Rounds.{waitsOn, isWaiting, isAsleep, opOf, operandOf}
 use Rattle.protocol.proofs.Each.{each}
+use Rattle.protocol.proofs.Points.{from-first}
 use Rattle.format.specs.Fates.{codeAsleep, codeOnCondition}
 use Rattle.rules.specs.Codes.{fateCode, fateOf, syncOf}
 
@@ -69,18 +70,18 @@ code-waits k = go (ltb k codeOnCondition) (eqb k 0) (eqb k 1) (eqb k 2) _
     go false zero one two q = refl
 
 -- the step of a record of the plan file
-pub step-sync : (r : Record) → opLock ≤ r .op → r .op ≤ opStart → stepOf r ≡ sync (syncOf (r .op) (r .number))
+pub step-sync : (r : Record) → synchronises (r .op) ≡ true → r .op ≤ opStart → stepOf r ≡ sync (syncOf (r .op) (r .number))
 unfolding stepOf rowIn syncOf
-step-sync r least most =
+step-sync r syncs last =
     each (λ op. elim (rowOf op) [ none ↦ sync exit | some x ↦ x .step (r .register) (r .number) ] ≡ sync (syncOf op (r .number))) 32 7
-    refl refl refl refl refl refl refl refl (r .op) least most
+    refl refl refl refl refl refl refl refl (r .op) (from-first syncs) last
 
-pub op-sync : (op number : ℕ) → 32 ≤ op → op ≤ 39 → opOf (syncOf op number) ≡ op
+pub op-sync : (op number : ℕ) → synchronises op ≡ true → op ≤ opStart → opOf (syncOf op number) ≡ op
 unfolding syncOf
-op-sync op number least most = each (λ k. opOf (syncOf k number) ≡ k) 32 7 refl refl refl refl refl refl refl refl op least most
+op-sync op number syncs last = each (λ k. opOf (syncOf k number) ≡ k) 32 7 refl refl refl refl refl refl refl refl op (from-first syncs) last
 
-pub operand-sync : (op number : ℕ) → 32 ≤ op → op ≤ 39 → (op ≡ 38 → number ≡ 0) → operandOf (syncOf op number) ≡ number
+pub operand-sync : (op number : ℕ) → synchronises op ≡ true → op ≤ opStart → (op ≡ 38 → number ≡ 0) → operandOf (syncOf op number) ≡ number
 unfolding syncOf
-operand-sync op number least most =
+operand-sync op number syncs last =
     each (λ k. (k ≡ 38 → number ≡ 0) → operandOf (syncOf k number) ≡ number) 32 7
-    (λ e. refl) (λ e. refl) (λ e. refl) (λ e. refl) (λ e. refl) (λ e. refl) (λ e. rw (e refl)) (λ e. refl) op least most
+    (λ e. refl) (λ e. refl) (λ e. refl) (λ e. refl) (λ e. refl) (λ e. refl) (λ e. rw (e refl)) (λ e. refl) op (from-first syncs) last

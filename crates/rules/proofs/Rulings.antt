@@ -8,14 +8,15 @@ use mathlib.Core.Path.{_≡_, refl, sym, ap, _∙_, subst⁻¹}
 use mathlib.Core.List.{List, [], _∷_}
 use lib.Dec.{eqb}
 use lib.ListN.{length, getD, take}
-use Rattle.protocol.specs.Ops.{opLock, opUnlock, opWait, opSignal, opBroadcast, opBarrier, opExit, opStart}
+use Rattle.protocol.specs.Ops.{opLock, opUnlock, opWait, opSignal, opBroadcast, opBarrier, opExit, opStart, syncsFrom}
 use Rattle.protocol.specs.Rounds as rounds
-use Rattle.protocol.specs.Format.{byName}
+use Rattle.protocol.specs.Format.{synchronises, byName}
 use Rattle.protocol.specs.Rounds.{member, committed, keeps, givesAtZero, commitsAtZero, lockRule, givenBack, unlockRule, waitRule, signalRule, broadcastRule, barrierRule, startRule, exitRule, ruleOf}
 use Rattle.protocol.specs.Steps.{Fate}
 use Rattle.protocol.specs.Turns.{noneLeft}
 use Rattle.protocol.proofs.Bools.{or-false, or-fails}
 use Rattle.protocol.proofs.Counting.{clash}
+use Rattle.protocol.proofs.Points.{from-first}
 use Rattle.format.specs.Fates.{codeAsleep}
 use Rattle.locks.specs.Set.{Shows}
 use Rattle.locks.proofs.Sets.{empty-same}
@@ -114,15 +115,15 @@ start-coherent {target} number {waiting} {fates} {r} s one w j e y =
     other v m = ne-eqb v target (λ q. true≢false (sym (eq-eqb (getD fates v 0) codeAsleep (ap (λ (k : ℕ). getD fates k 0) q ∙ y)) ∙ s .awake v m))
 
 -- the op that is left for a signal
-from-signal : (op : ℕ) → opLock ≤ op → (op ≡ opLock → ⊥) → (op ≡ opUnlock → ⊥) → (op ≡ opWait → ⊥) → opSignal ≤ op
+from-signal : (op : ℕ) → syncsFrom ≤ op → (op ≡ opLock → ⊥) → (op ≡ opUnlock → ⊥) → (op ≡ opWait → ⊥) → opSignal ≤ op
 from-signal op least l u w = omega arith
 
 to-broadcast : (op : ℕ) → op ≤ opStart → (op ≡ opBarrier → ⊥) → (op ≡ opExit → ⊥) → (op ≡ opStart → ⊥) → op ≤ opBroadcast
 to-broadcast op most b e s = omega arith
 
-pub signal-left : (op : ℕ) → opLock ≤ op → op ≤ opStart → (op ≡ opBroadcast → ⊥) → (op ≡ opLock → ⊥) → (op ≡ opUnlock → ⊥) → (op ≡ opWait → ⊥)
+pub signal-left : (op : ℕ) → synchronises op ≡ true → op ≤ opStart → (op ≡ opBroadcast → ⊥) → (op ≡ opLock → ⊥) → (op ≡ opUnlock → ⊥) → (op ≡ opWait → ⊥)
     → (op ≡ opBarrier → ⊥) → (op ≡ opExit → ⊥) → (op ≡ opStart → ⊥) → op ≡ opSignal
-signal-left op least most other l u w b e s = only (from-signal op least l u w) (to-broadcast op most b e s) other
+signal-left op syncs last other l u w b e s = only (from-signal op (from-first syncs) l u w) (to-broadcast op last b e s) other
   where
     only : {op : ℕ} → opSignal ≤ op → op ≤ opBroadcast → (op ≡ opBroadcast → ⊥) → op ≡ opSignal
     only low high other = omega arith

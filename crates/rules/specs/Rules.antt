@@ -5,8 +5,8 @@ use mathlib.Core.Path.{_≡_}
 use mathlib.Core.List.{List, []}
 use lib.Dec.{eqb}
 use lib.ListN.{length, getD, take}
-use Rattle.protocol.specs.Ops.{opLock, opSignal, opBroadcast, opBarrier, opStart}
-use Rattle.protocol.specs.Format.{workersLimit, barrierCount, lockLimit, byName, Plan}
+use Rattle.protocol.specs.Ops.{opSignal, opBroadcast, opBarrier, opStart}
+use Rattle.protocol.specs.Format.{workersLimit, barrierCount, lockLimit, synchronises, byName, Plan}
 use Rattle.protocol.specs.Steps.{QueueName, onCondition, atBarrier, Fate}
 use Rattle.protocol.specs.Rounds as rounds
 use Rattle.protocol.specs.Rounds.{keep, member, fateAfter, commitsAtZero, givesAtZero, startRule, ruleOf}
@@ -100,8 +100,8 @@ pub record Starting (target : ℕ) (waiting : Queue) (fates : List ℕ) : Type 0
 
 -- what a ruling is asked for: of all numbers that a synchronising step may have a lock's are the greatest
 pub record Asking (op number holds : ℕ) (waiting : Queue) (fates : List ℕ) : Type 0 where
-  pub least : opLock ≤ op
-  pub most : op ≤ opStart
+  pub syncs : synchronises op ≡ true
+  pub last : op ≤ opStart
   pub operand : number ≤ lockLimit
   pub barrier : op ≡ opBarrier → number < barrierCount
   pub target : op ≡ opStart → number < workersLimit

@@ -2,9 +2,9 @@
 use borrow.Author.Needs.{needs}
 use native.Mathlib.Omega.{arith}
 use Prim.Native.Nat.{_-_, _<_}
-use mathlib.Core.Path.{_∙_, sym, refl}
+use mathlib.Core.Path.{_≡_, _∙_, sym, refl}
 use lib.ListN.{length, getD}
-use Rattle.protocol.specs.Format.{workersLimit}
+use Rattle.protocol.specs.Format.{workersLimit, synchronises}
 use Rattle.engine.specs.Kept.{keptOwn}
 use Rattle.engine.proofs.Here.{small, fetch-fits, own-fits}
 use Rattle.engine.proofs.OwnTurns.{SoFar, none-yet, moves-small, passes, here, moves-on}
@@ -34,6 +34,10 @@ from-fetch c = c .before .before .before .before
 
 abbrev from-own : tie.After-own-move Inv-loop μ-loop → tie.After-fetch Inv-loop μ-loop
 from-own c = c .before .before .before .before .before .before .before
+
+-- whether the step synchronises, as the list has it
+listed : (c : tie.After-synchronises Inv-loop μ-loop) → synchronises (c .before .fetch .result .op) ≡ c .synchronises .result
+listed c = sym (c .synchronises .ensures)
 
 -- a turn names one of eight workers
 named : (c : tie.After-shared-slice-known4 Inv-loop μ-loop) → getD (from-loop (from-turn c) .args .turns .now) (from-turn c .loop .i) 0 < workersLimit
@@ -78,6 +82,9 @@ fetch-requires c κs =
     let t = from-able m in
     fetch-fits (here (from-turn t .loop .inv) (t .before .loop-test .taken) (λ fates log. m .if1 .taken) (from-loop (from-turn t) .pre))
 
+synchronises-requires : tie.Need-synchronises-requires Inv-loop μ-loop
+synchronises-requires c κs = tt
+
 same-length : tie.Need-same-length Inv-loop μ-loop
 same-length c =
     let l = from-turn (from-able (from-fetch (c .before .before))) in
@@ -90,7 +97,7 @@ returns c =
     record {
       forward = so .forward;
       within = so .within;
-      stopped = λ l fates log. record { able = from-fetch f .if1 .taken; fetched = f .fetch .ensures; late = c .if2 .taken };
+      stopped = λ l fates log. record { able = from-fetch f .if1 .taken; fetched = f .fetch .ensures; syncs = listed (c .before) ∙ c .if2 .taken };
       refines = so .refines;
     }
 
@@ -100,8 +107,8 @@ mul-t27 c = omega (arith, named (from-able (from-fetch (c .before .before))))
 element-copy-out-t41 : tie.Need-element-copy-out-t41 Inv-loop μ-loop
 element-copy-out-t41 c = omega (arith, named (from-able (from-fetch (c .before .before))))
 
-mul-t30 : tie.Need-mul-t30 Inv-loop μ-loop
-mul-t30 c = omega (arith, named (from-able (from-fetch (c .before .before .before))))
+mul-t37 : tie.Need-mul-t37 Inv-loop μ-loop
+mul-t37 c = omega (arith, named (from-able (from-fetch (c .before .before .before))))
 
 element-copy-out-t44 : tie.Need-element-copy-out-t44 Inv-loop μ-loop
 element-copy-out-t44 c = omega (arith, named (from-able (from-fetch (c .before .before .before))))
@@ -112,7 +119,7 @@ own-move-requires c κs =
     let f = e .before .before in
     let t = from-able (from-fetch f) in
     let h = here (from-turn t .loop .inv) (t .before .loop-test .taken) (λ fates log. from-fetch f .if1 .taken) (from-loop (from-turn t) .pre) in
-    (h .refines .bytes .sizes, h .refines .bytes .marks, small h, own-fits h (f .fetch .ensures) (omega (arith, e .if2 .left)))
+    (h .refines .bytes .sizes, h .refines .bytes .marks, small h, own-fits h (f .fetch .ensures) (listed (e .before) ∙ e .if2 .left))
 
 mul-places : tie.Need-mul-places Inv-loop μ-loop
 mul-places c = omega (arith, named (from-able (from-fetch (from-own (c .before .before)))))
@@ -143,7 +150,7 @@ loop-again c =
     let f = from-own o in
     let t = from-able (from-fetch f) in
     moves-on (from-turn t .loop .inv) (t .before .loop-test .taken) (λ fates log. from-fetch f .if1 .taken)
-    (λ fates log. (f .fetch .ensures, o .own-move .ensures)) (omega (arith, o .before .before .before .before .before .if2 .left)) (omega arith)
+    (λ fates log. (f .fetch .ensures, o .own-move .ensures)) (listed (o .before .before .before .before .before .before) ∙ o .before .before .before .before .before .if2 .left) (omega arith)
 
 add-pass-over : tie.Need-add-pass-over Inv-loop μ-loop
 add-pass-over c = omega (arith, c .before .before .before .loop-test .taken)
@@ -188,11 +195,12 @@ play-own-spec =
     mul-fetch-2
     element-copy-out-fetch-2
     fetch-requires
+    synchronises-requires
     same-length
     returns
     mul-t27
     element-copy-out-t41
-    mul-t30
+    mul-t37
     element-copy-out-t44
     own-move-requires
     mul-places

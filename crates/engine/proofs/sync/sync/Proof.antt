@@ -25,7 +25,7 @@ returns : tie.Need-returns
 returns c =
     λ h.
     let e = c .before .arrive .ensures in
-    arrive-simulates (h .here) (sync-here (h .here) (h .fetched) (h .late)) (from-arrive (c .before .before) .if1 .taken) (e .0) (e .1)
+    arrive-simulates (h .here) (sync-here (h .here) (h .fetched) (h .syncs)) (from-arrive (c .before .before) .if1 .taken) (e .0) (e .1)
 
 hold-requires : tie.Need-hold-requires
 hold-requires c κs = search needs

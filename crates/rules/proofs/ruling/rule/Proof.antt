@@ -54,7 +54,7 @@ returns-7 c = λ locks z.
     let e4 = c .before .before .before in
     let s = e4 .before .before .before .before in
     by-signal
-    (signal-left (s .args .op) (s .pre .0 .least) (s .pre .0 .most) (s .pre .1) (e4 .before .before .before .if1 .left) (e4 .before .before .if2 .left)
+    (signal-left (s .args .op) (s .pre .0 .syncs) (s .pre .0 .last) (s .pre .1) (e4 .before .before .before .if1 .left) (e4 .before .before .if2 .left)
     (e4 .before .if3 .left) (e4 .if4 .left) (c .before .before .if5 .left) (c .before .if6 .left))
     (c .signal .ensures locks z _ _)
 
