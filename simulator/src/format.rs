@@ -45,13 +45,50 @@ pub const OP_PLAN: u8 = 0;
 pub const OP_BARRIER_SIZE: u8 = 1;
 /// Op of a sleep record.
 pub const OP_SLEEP: u8 = 2;
-/// Op of a signal and of a broadcast.
+
+/// Ops of the steps that a worker makes by itself.
+pub const OP_SET: u8 = 16;
+pub const OP_LOAD: u8 = 17;
+pub const OP_STORE: u8 = 18;
+pub const OP_ADD: u8 = 19;
+pub const OP_SUBTRACT: u8 = 20;
+pub const OP_SKIP_ZERO: u8 = 21;
+pub const OP_SKIP_NONZERO: u8 = 22;
+
+/// Ops of the steps that synchronise.
+pub const OP_LOCK: u8 = 32;
+pub const OP_UNLOCK: u8 = 33;
+pub const OP_WAIT: u8 = 34;
 pub const OP_SIGNAL: u8 = 35;
 pub const OP_BROADCAST: u8 = 36;
-/// Op of an exit, which the end of the steps acts as.
+pub const OP_BARRIER: u8 = 37;
+/// The end of the steps acts as this one too.
 pub const OP_EXIT: u8 = 38;
-/// Op of a start.
 pub const OP_START: u8 = 39;
+
+/// Whether a step of this op synchronises: a case for each op, then those for
+/// the bytes that name no step. No checked plan has these.
+pub fn synchronises(op: u8) -> bool {
+    match op {
+        OP_SET => false,
+        OP_LOAD => false,
+        OP_STORE => false,
+        OP_ADD => false,
+        OP_SUBTRACT => false,
+        OP_SKIP_ZERO => false,
+        OP_SKIP_NONZERO => false,
+        OP_LOCK => true,
+        OP_UNLOCK => true,
+        OP_WAIT => true,
+        OP_SIGNAL => true,
+        OP_BROADCAST => true,
+        OP_BARRIER => true,
+        OP_EXIT => true,
+        OP_START => true,
+        0..=15 | 23..=31 => false,
+        40..=255 => true,
+    }
+}
 
 /// One record of a plan file, as its bytes say, without any judgement.
 #[derive(Clone, Copy, Debug, PartialEq, Eq)]

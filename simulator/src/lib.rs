@@ -1,10 +1,11 @@
 //! A simulator of the plan engine, written from its paper alone.
 //!
-//! Two runs live here side by side and share only the checked plan and the
-//! shape of their answer: [`turn_machine`] plays a list of turns, one turn at
-//! a time, and [`round_run`] plays whole rounds without turns. They keep
-//! their state in different structures on purpose, so that a slip in one of
-//! them shows as a difference between the two.
+//! Two runs live here side by side and share only the checked plan, the list
+//! of ops that synchronise and the shape of their answer: [`turn_machine`]
+//! plays a list of turns, one turn at a time, and [`round_run`] plays whole
+//! rounds without turns. They keep their state in different structures on
+//! purpose, so that a slip in one of them shows as a difference between the
+//! two. A slip in what they share does not; tests know it by hand.
 
 pub mod batch;
 pub mod calls;

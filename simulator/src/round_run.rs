@@ -9,6 +9,7 @@
 use std::collections::{BTreeSet, VecDeque};
 
 use crate::check::{Plan, Step};
+use crate::format::synchronises;
 use crate::outcome::Outcome;
 
 /// One byte of a copied page.
@@ -101,7 +102,7 @@ impl<'a> Rounds<'a> {
     /// its end. Nobody commits here, so the order does not matter.
     fn fence(&mut self) {
         for who in self.list.clone() {
-            while let Some(step) = self.step_of(who).filter(|step| step.op < 32) {
+            while let Some(step) = self.step_of(who).filter(|step| !synchronises(step.op)) {
                 self.ordinary(who, step);
             }
             // The arrival.
@@ -131,16 +132,16 @@ impl<'a> Rounds<'a> {
 
     fn holder_step(&mut self, who: usize) -> Then {
         match self.step_of(who) {
-            Some(step) if step.op < 32 => {
+            Some(step) if synchronises(step.op) => self.synchronising(who, step.op, step.number),
+            Some(step) => {
                 self.ordinary(who, step);
                 Then::RunOn
             }
-            Some(step) => self.synchronising(who, step.op, step.number),
             None => self.synchronising(who, 38, 0),
         }
     }
 
-    /// A step below op 32: registers, loads, stores and skips.
+    /// A step that does not synchronise: registers, loads, stores and skips.
     fn ordinary(&mut self, who: usize, step: Step) {
         self.moves += 1;
         let value = self.seats[who].registers[step.register as usize];

@@ -34,8 +34,8 @@ use crate::counts::{
     Tried, Waking,
 };
 use crate::format::{
-    LOG_MARK, LOG_RECORD_LENGTH, MOST_WORKERS, OP_BROADCAST, OP_EXIT, OP_SIGNAL, OP_START,
-    REPORT_FATES, REPORT_LENGTH, REPORT_SUM,
+    synchronises, LOG_MARK, LOG_RECORD_LENGTH, MOST_WORKERS, OP_BROADCAST, OP_EXIT, OP_SIGNAL,
+    OP_START, REPORT_FATES, REPORT_LENGTH, REPORT_SUM,
 };
 use crate::outcome::Outcome;
 use held::Held;
@@ -370,7 +370,7 @@ impl<'a> Machine<'a> {
             return None;
         }
         let step = self.at_hand(worker);
-        match (step.op >= 32, fence_full) {
+        match (synchronises(step.op), fence_full) {
             (false, _) => {
                 self.plain_step(worker, step);
                 Some(Move::OwnStep)
