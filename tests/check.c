@@ -515,6 +515,22 @@ static void steps(void) {
     refuses("store at 2,047", &f, 7, 1);
 }
 
+/* Each byte as the op of a step behind another. What no step is named by is 6, but ops 0, 1 and 2 are records out of their place: 3
+ * "op 0 later", 4 "after a step", 14 "out of .. place". */
+static void ops_behind_a_step(void) {
+    struct plan_file f;
+    unsigned op;
+    for (op = 0; op < 256; op++) {
+        unsigned refusal = known(op) ? 0 : op == 0 ? 3 : op == 1 ? 4 : op == 2 ? 14 : 6;
+        plan_begin(&f, 2);
+        plan_size(&f, 0, 1);
+        plan_fill(&f, 0, 1);
+        plan_add(&f, 0, op, 0, op == TAMPERMAUVE_OP_SKIP_ZERO || op == TAMPERMAUVE_OP_SKIP_NONZERO);
+        plan_fill(&f, 0, 1);
+        refuses("an op behind a step", &f, refusal, refusal == 0 ? 0 : 3);
+    }
+}
+
 /* Op 39 has "a worker below n as number"; any other number is 7 */
 static void starts(void) {
     struct plan_file f;
@@ -808,6 +824,7 @@ int main(void) {
     barriers();
     sleepers();
     steps();
+    ops_behind_a_step();
     starts();
     start_bytes();
     start_tests();

@@ -1,7 +1,7 @@
-/* tampermauve_run on cases 1 to 10 of document 01, on plans with sleepers and starts, on plans with broadcasts and on plans with locks
- * by name, every byte of every buffer compared; on the sum that each commit moves; and on the refusals of a run. What is expected is
- * worked out by hand from document 01, "Rounds", "Log and report" and "Plans to check against", and from requests One to Three and
- * Five of document 02. */
+/* tampermauve_run on cases 1 to 10 of document 01, on plans with sleepers and starts, on plans with broadcasts, on plans with locks by
+ * name and on a step of each op, every byte of every buffer compared; on the sum that each commit moves; and on the refusals of a run.
+ * What is expected is worked out by hand from document 01, "Rounds", "Turns", "Log and report" and "Plans to check against", and from
+ * requests One to Three, Five and Six of document 02. */
 #include <stdio.h>
 #include <stdlib.h>
 #include <string.h>
@@ -2025,6 +2025,77 @@ static void sum_cases(struct plan_file *f) {
     report_bytes(f);
 }
 
+/* A step of each op of the table: whether it synchronises, and if it does, its outcome and worker 0's fate with lock 0 held. */
+struct point {
+    const char *name;
+    unsigned op, reg, number;
+    int synchronises;
+    unsigned outcome, fate;
+};
+
+static const struct point points[15] = {
+    {"a set", TAMPERMAUVE_OP_SET, 1, 9, 0, 0, 0},
+    {"a load", TAMPERMAUVE_OP_LOAD, 0, 0, 0, 0, 0},
+    {"a store", TAMPERMAUVE_OP_STORE, 0, 0, 0, 0, 0},
+    {"an add", TAMPERMAUVE_OP_ADD, 0, 1, 0, 0, 0},
+    {"a subtract", TAMPERMAUVE_OP_SUBTRACT, 0, 1, 0, 0, 0},
+    {"a skip if zero", TAMPERMAUVE_OP_SKIP_ZERO, 0, 1, 0, 0, 0},
+    {"a skip if not zero", TAMPERMAUVE_OP_SKIP_NONZERO, 0, 1, 0, 0, 0},
+    {"a lock", TAMPERMAUVE_OP_LOCK, 0, 3, 1, 2, 0},
+    {"an unlock", TAMPERMAUVE_OP_UNLOCK, 0, 0, 1, 0, 0},
+    {"a wait", TAMPERMAUVE_OP_WAIT, 0, 2, 1, 255, 3},
+    {"a signal", TAMPERMAUVE_OP_SIGNAL, 0, 2, 1, 255, 0},
+    {"a broadcast", TAMPERMAUVE_OP_BROADCAST, 0, 2, 1, 0, 0},
+    {"a barrier", TAMPERMAUVE_OP_BARRIER, 0, 1, 1, 254, 2},
+    {"an exit", TAMPERMAUVE_OP_EXIT, 0, 0, 1, 254, 2},
+    {"a start", TAMPERMAUVE_OP_START, 0, 1, 1, 253, 0},
+};
+
+/* Worker 0 makes the step, with lock 0 or without; worker 1 has no steps. Barrier 1 is of one. Behind a skip there must be something
+ * to skip: an exit, and skipped or not worker 0 is then at what synchronises. */
+static void point_plan(struct plan_file *f, const struct point *p, int locked) {
+    plan_begin(f, 2);
+    plan_size(f, 1, 1);
+    if (locked) {
+        take(f, 0, 0);
+    }
+    plan_add(f, 0, p->op, p->reg, p->number);
+    if (p->op == TAMPERMAUVE_OP_SKIP_ZERO || p->op == TAMPERMAUVE_OP_SKIP_NONZERO) {
+        plan_sync(f, 0, TAMPERMAUVE_OP_EXIT, 0);
+    }
+}
+
+/* Turns of worker 0 alone, so that the fence is never full: nothing is logged, and the zero that is stored over the 261 at 0 is not
+ * committed. A step that does not synchronise is a move, and the arrival at the end or the exit behind it another; one that does is met
+ * by an arrival. All further turns pass. */
+static void fence_points(struct plan_file *f, const struct point *p) {
+    static const unsigned own[4] = {0, 1, 2, 2}, arrives[4] = {0, 1, 1, 1};
+    size_t turns;
+    point_plan(f, p, 0);
+    for (turns = 0; turns <= 3; turns++) {
+        struct expected e = {p->name, {5, 1}, 0, 0, 0, 0, {{0, 0, 0, 0, 0}}, {0, 0}};
+        e.moves = p->synchronises ? arrives[turns] : own[turns];
+        play(&e, f, 2, alone, turns, 261);
+    }
+}
+
+/* Two arrivals, the lock, the step: with the token it needs no arrival, and it is logged if it synchronises. */
+static void token_points(struct plan_file *f, const struct point *p) {
+    static const uint8_t turns[4] = {0, 1, 0, 0};
+    struct expected e = {p->name, {5, 1}, 0, 4, 0, p->synchronises ? 2 : 1,
+        {{1, 0, 32, 0, 1}, {1, 0, p->op, p->number, p->outcome}}, {p->fate, 0}};
+    point_plan(f, p, 1);
+    play(&e, f, 2, turns, 4, 261);
+}
+
+static void point_cases(struct plan_file *f) {
+    size_t k;
+    for (k = 0; k < sizeof points / sizeof *points; k++) {
+        fence_points(f, &points[k]);
+        token_points(f, &points[k]);
+    }
+}
+
 /* A refused run, with buffers of the lengths told: no byte of them is changed. */
 static void refused(const char *name, const struct plan_file *f, const uint8_t *turns, size_t turns_length, const size_t told[4],
                     uint32_t wanted) {
@@ -2103,6 +2174,32 @@ static void sleep_refusals(struct plan_file *f) {
     refused("13 behind a sleeper's turn", f, turns, 2, right, 13);
 }
 
+static int names_a_step(unsigned op) {
+    size_t k;
+    for (k = 0; k < sizeof points / sizeof *points; k++) {
+        if (points[k].op == op) {
+            return 1;
+        }
+    }
+    return 0;
+}
+
+/* A byte that names no op of the table is never run, whether it would synchronise or not. Behind a step, ops 0, 1 and 2 are records
+ * out of their place. */
+static void nameless_refusals(struct plan_file *f) {
+    static const size_t right[4] = {MEMORY, LOG, REPORT, WORK};
+    unsigned op;
+    for (op = 0; op < 256; op++) {
+        if (!names_a_step(op)) {
+            unsigned wanted = op == 0 ? 3 : op == 1 ? 4 : op == 2 ? 14 : 6;
+            plan_begin(f, 2);
+            plan_fill(f, 0, 1);
+            plan_add(f, 0, op, 0, 1);
+            refused("a step whose op is none", f, alone, 3, right, wanted + 256u * 2u);
+        }
+    }
+}
+
 int main(void) {
     static struct plan_file f;
     memory_cases(&f);
@@ -2111,9 +2208,11 @@ int main(void) {
     broadcast_cases(&f);
     lock_cases(&f);
     sum_cases(&f);
+    point_cases(&f);
     refusals(&f);
     report_refusals(&f);
     sleep_refusals(&f);
+    nameless_refusals(&f);
     printf("run: %u checks, %u failures\n", checks, failures);
     return failures == 0 ? 0 : 1;
 }
