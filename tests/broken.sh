@@ -133,6 +133,7 @@ conventions() {
     changed "a contract that imports a proof" crates/engine/src/sync.rt '/^ghost use/i ghost use Rattle.engine.proofs.Facts.{known};' 'a contract imports a proof' make test-conventions
     changed "an import that is not used" crates/engine/specs/Moving.antt 's/_+_, _<_}/_+_, _-_, _<_}/' 'is imported and not used: crates/engine/specs/Moving.antt:2: _-_' make test-conventions
     changed "an import of the code that is not used" crates/engine/src/own.rt 's/^use format::ops;/&\nuse format::fates::GOING;/' 'own.rt:5: GOING' make test-conventions
+    fails "imports that cannot be read" 'the imports could not be read' bash -c 'perl() { return 127; }; export -f perl; tests/conventions.sh'
     changed "a name for two things" crates/decisions/specs/Fates.antt '$a abbrev pub kept : ℕ\nkept = 0' 'stands for two things: kept' make test-conventions
     changed "a type of another's name" crates/decisions/specs/Fates.antt 's/record Freeing/record Syncing/' 'is two types: Syncing' make test-conventions
     changed "a type of the code with a definition's name" crates/token/src/lib.rt 's/^pub struct Round /pub struct State /' 'another one in specs or proofs: State' make test-conventions

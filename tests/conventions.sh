@@ -32,9 +32,8 @@ complain "a contract imports a proof" < <(files '*.rt' | xargs grep -nE '^ghost 
 # A name that is imported and does not stand in the rest of the file, comments aside; of an operator, _+_, it is the sign that has to.
 unused() {
     perl -CSD -e '
-        use utf8;
         for my $file (@ARGV) {
-            open(my $in, "<:encoding(UTF-8)", $file) or die "$file: $!";
+            open(my $in, "<", $file) or die "$file: $!";
             my (%imported, $rest);
             while (<$in>) {
                 s/(--|\/\/) .*//;
@@ -50,7 +49,8 @@ unused() {
             }
         }' "$@"
 }
-complain "is imported and not used" < <(unused $(files '*.antt') $(files '*.rt'))
+imports=$(unused $(files '*.antt') $(files '*.rt')) || { echo "conventions: the imports could not be read" >&2; exit 1; }
+complain "is imported and not used" < <([ -z "$imports" ] || echo "$imports")
 
 # ---- names: a definition of the specs stands in one file of all specs, a type in one file of specs and proofs
 

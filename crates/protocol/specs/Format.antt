@@ -165,8 +165,8 @@ abbrev pub syncs : Step → Bool
 syncs (own o) = false
 syncs (sync y) = true
 
--- Six, "Which steps synchronise, as a list": whether an op does. The list is the table, in which each op stands with its step; "bytes that
--- name no op included": they go by their number.
+-- "Ops 32 and up synchronise." Six: "Which steps synchronise, as a list", "one for each op". The list is the table, in which each op stands
+-- with its step; "bytes that name no op included": they go by their number.
 abbrev pub syncsBy : Option Row → ℕ → Bool
 syncsBy none o = leb syncsFrom o
 syncsBy (some x) o = syncs (x .step 0 0)
