@@ -225,6 +225,8 @@ uint32_t tampermauve_check(const uint8_t *file, size_t file_length);
  *   work    exactly TAMPERMAUVE_WORK_LENGTH bytes: out, all zero
  *
  * What log, report and work hold before the call does not matter. After a refusal all four are as they were.
+ * A byte of memory that no load or store of the file covers, each of which covers its address and the next, is as it was, and
+ * what it holds changes nothing else that the run leaves but the report's sum.
  * `turns` may be empty; each byte names a worker. A turn that names a sleeper passes.
  *
  * Each run begins with round 1, with every worker at its first step and every sleeper asleep, and cannot be resumed: what it

@@ -11,10 +11,10 @@ use lib.Seq.{sets, sets-eq, take-at, length-take-le}
 use Rattle.protocol.specs.Format.{workersLimit, countFrom}
 use Rattle.protocol.specs.Rounds.{Entry}
 use Rattle.protocol.specs.Calls.{reportLength}
-use Rattle.protocol.specs.Report.{entryLength, logMark, twoBytes, fourBytes, entryBytes, logBytes}
+use Rattle.protocol.specs.Report.{entryLength, logMark, twoBytes, fourBytes, entryBytes, logBytes, reportSum}
 use Rattle.words.specs.Bytes.{bytesOf}
 use Rattle.journal.specs.Bytes.{entryAs, shown, fatesFrom, talliesOf}
-use Rattle.journal.specs.Offsets.{reportEnd, talliesLength, reportFates, reportSum, sumLength}
+use Rattle.journal.specs.Offsets.{reportEnd, talliesLength, reportFates, sumLength}
 
 -- the lowest byte, and the number of the others
 lowest : (a m : ℕ) → a < 256 → (a + 256 * m) % 256 ≡ a

@@ -26,15 +26,12 @@ reportMoves = 2
 abbrev pub reportRecords : ℕ
 reportRecords = 6
 
--- the numbers up to the fates, then the fates, then the sum
+-- the numbers up to the fates, then the fates, then the sum, which begins at `Report.reportSum`
 abbrev pub talliesLength : ℕ
 talliesLength = 8
 
 abbrev pub reportFates : ℕ
 reportFates = talliesLength
-
-abbrev pub reportSum : ℕ
-reportSum = reportFates + workersLimit
 
 abbrev pub sumLength : ℕ
 sumLength = 4

@@ -1,14 +1,15 @@
 -- Many plans in one call: the verdict is that of the first test that is due, and one that is accepted is lent evenly.
 use Prim.Native.Nat.{ℕ, _*_, _≤_}
-use mathlib.Core.Bool.{Bool, false, not, _||_, false≢true}
-use mathlib.Core.Path.{_≡_, sym, _∙_}
+use native.Mathlib.Omega.{arith}
+use mathlib.Core.Bool.{Bool, true, false, not, _||_, false≢true}
+use mathlib.Core.Path.{_≡_, refl, sym, _∙_}
 use mathlib.Core.List.{List, [], _∷_}
 use lib.Dec.{ltb, eqb}
 use lib.ListN.{length}
 use borrow.Author.Tests.{ltb-false, le-ltb, eqb-false, not-true, eq-eqb}
 use Rattle.protocol.specs.Refusals.{badBuffer, badBatch, accepted, holds, refuseIf, outside}
 use Rattle.protocol.specs.Calls.{memoryLength, logLength, reportLength, workLength}
-use Rattle.protocol.specs.Batch.{Batch, plansLimit, lengthBytes, beginsAt, unevenBy, uneven, batchVerdict}
+use Rattle.protocol.specs.Batch.{Batch, plansLimit, lengthBytes, beginsAt, unevenBy, uneven, batchBy, batchVerdict}
 use Rattle.protocol.specs.WellFormed.{EvenlyLent}
 use Rattle.protocol.specs.Conditions.{test, batchTests, FirstDue}
 use Rattle.protocol.proofs.Bools.{or-left, or-right}
@@ -71,6 +72,13 @@ module _ (count lengths memories logs reports answers : ℕ) where
         eq-eqb _ _ (f .answersFit),
       )
 
+-- what it says of the tests that none was due
+tests-passed : (w p s : Bool) → batchBy w p s ≡ accepted → (w ≡ false) × (p || s ≡ false)
+tests-passed true p s e = let z : _≡_ {A = ℕ} 0 1 = cc in absurd (omega arith)
+tests-passed false true s e = let z : _≡_ {A = ℕ} 0 1 = cc in absurd (omega arith)
+tests-passed false false true e = let z : _≡_ {A = ℕ} 0 1 = cc in absurd (omega arith)
+tests-passed false false false e = (refl, refl)
+
 module _ (count : ℕ) (files lengths : List ℕ) (b : Batch) where
   abbrev amiss : Bool
   amiss = uneven count lengths b || not (eqb (beginsAt lengths count) (length files))
@@ -88,6 +96,13 @@ module _ (count : ℕ) (files lengths : List ℕ) (b : Batch) where
         answersFit = f .answersFit;
         sum = same-length _ _ (or-right (uneven count lengths b) e);
       }
+
+  -- what an accepted call was lent
+  pub accepted-lent : batchVerdict count files lengths b ≡ accepted → EvenlyLent count files lengths b × (length (b .work) ≡ workLength)
+  unfolding batchVerdict
+  accepted-lent e =
+      let t = tests-passed (not (eqb (length (b .work)) workLength)) (uneven count lengths b) (not (eqb (beginsAt lengths count) (length files))) e in
+      (evenly-lent (t .1), same-length _ _ (t .0))
 
   not-amiss : EvenlyLent count files lengths b → amiss ≡ false
   not-amiss f =

@@ -1,5 +1,5 @@
--- Cases 1 to 10 and those behind them, the calls with several plans, the plans of Five by count, and each op of Six: the definitions yield the
--- tables.
+-- Cases 1 to 10 and those behind them, the calls with several plans, the plans of Five by count, each op of Six, and the plans of Seven: the
+-- definitions yield the tables.
 use mathlib.Core.Path.{_≡_, refl}
 use mathlib.Core.List.{map}
 use Rattle.protocol.specs.Format.{recordFrom, recordsFrom, recordCount, records, rowIn, known, stepOf, sizeIn, sleepersIn, stepsIn, countFrom, planIn}
@@ -11,10 +11,12 @@ use Rattle.protocol.specs.Turns.{start, allArrived, can, move, turn, pla
 use Rattle.protocol.specs.RoundRun.{total, runUp, fence, token, roundsFrom}
 use Rattle.protocol.specs.Sum.{sumOf}
 use Rattle.protocol.specs.Report.{logBytes, allFinal, endOf, fateByte, reportBytes}
+use Rattle.protocol.specs.Named.{named}
 use Rattle.protocol.specs.Calls.{runVerdict, lentLog, run}
 use Rattle.protocol.specs.Listing.{cycles}
 use Rattle.protocol.specs.Batch.{lengthAt, beginsAt, fileAt, partAt, partAs, batchVerdict, runPlans, runAll}
 use Rattle.protocol.proofs.Table.{turnsOf, padded, lentTo, yields, expected, expects, cases, points, countedCases, yieldsCounted}
+use Rattle.protocol.proofs.NamedTable.{unnamed, Names, namedIn, naming}
 use Rattle.protocol.proofs.BatchTable.{joined, batchLent, batchLeft, yieldsAll, expectsAll, batches}
 
 pub cases-hold : map yields cases ≡ map expects cases
@@ -44,3 +46,14 @@ unfolding recordFrom recordsFrom recordCount records rowIn known stepOf sizeIn s
     commitFrom newWorker ownStep keep queueOf member ruleOf freed apply newRound start allArrived can move turn play total runUp fence token
     roundsFrom sumOf logBytes allFinal endOf fateByte reportBytes lentLog cycles turnsOf padded lentTo expected expects countedCases yieldsCounted
 counted-hold = refl
+
+pub unnamed-hold : map yields unnamed ≡ map expects unnamed
+unfolding recordFrom recordsFrom recordCount records rowIn known stepOf sizeIn sleepersIn stepsIn countFrom planIn anyOf lengthRule planRule
+    barrierRecordRule sleepRecordRule operandsOutside stepRule laterRule recordRule skipRule checkSkips checkRecords check page noCopies loadByte loadWord storeByte storeWord
+    commitFrom newWorker ownStep keep queueOf member ruleOf freed apply newRound start allArrived can move turn play total runUp fence token
+    roundsFrom sumOf logBytes allFinal endOf fateByte reportBytes runVerdict lentLog run cycles turnsOf padded lentTo yields expected expects unnamed
+unnamed-hold = refl
+
+pub naming-holds : map namedIn naming ≡ map (λ (c : Names). c .addresses) naming
+unfolding recordFrom recordsFrom recordCount records rowIn known stepOf sizeIn sleepersIn stepsIn countFrom planIn anyOf keep named namedIn naming
+naming-holds = refl

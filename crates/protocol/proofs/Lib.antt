@@ -6,6 +6,8 @@ pub mod Each
 pub mod Bools
 -- Lists that are counted off, repeated or read from a file.
 pub mod Lists
+-- Lists of which each element is changed by its place.
+pub mod Placed
 -- The plan file: what an accepted one is; then which test decides a verdict, and that accepted means well-formed.
 
 -- Lists of records, one more at the end.
@@ -76,10 +78,20 @@ pub mod Sizes
 
 -- Any two machines that take the same turns: what ties their states together is kept.
 pub mod SideBySide
+-- A property of each worker by itself, kept by every move.
+pub mod EachWorker
 -- Five: no worker holds a lock twice.
 pub mod Once
+-- A state with memory, locks and copies drawn anew: what a move does to it, and what the report shows of it.
+pub mod Redrawn
 -- Five: a plan that meets neither failure of its locks leaves what it left when they went by count.
 pub mod Naming
+-- Seven: a working copy is as long as its twin.
+pub mod Paired
+-- Seven: bytes that nobody named, taken from another memory: load, store and commit go along with it.
+pub mod OtherBytes
+-- Seven: a run from another memory is the same run with the bytes that nobody named taken from there.
+pub mod Unnamed
 -- Four: whole cycles end every plan; parts back to back; each accepted plan of a call is run to its end.
 
 -- The listing program's turns are whole cycles, and end the plan.
@@ -88,13 +100,17 @@ pub mod Cycles
 pub mod BatchParts
 -- What the separate call of a plan leaves, and that each accepted plan is run to its end.
 pub mod Batches
+-- Seven: bytes that nobody named, of two calls with one file and of two with the same plans.
+pub mod UnnamedBytes
 -- The paper's cases, a check on the definitions.
 
 -- Cases 1 to 10 as one table, with the bytes that each leaves.
 pub mod Table
 -- Calls with several plans as another.
 pub mod BatchTable
--- The definitions yield both tables.
+-- Plans of Seven as a third, and the bytes that they name.
+pub mod NamedTable
+-- The definitions yield all three.
 pub mod Cases
 -- The definitions yield case 1's text, byte by byte.
 pub mod Texts

@@ -1,22 +1,23 @@
 -- Five: "the set of its locks". Among those that a worker holds no lock stands twice, so their number is the size of a set.
 -- Assumes nothing.
-use Prim.Native.Nat.{ℕ, zero, suc, _-_, _≤_}
+use Prim.Native.Nat.{ℕ, _-_, _≤_}
 use native.Mathlib.Omega.{arith}
 use native.Mathlib.Decide.{ℕ-discrete}
 use mathlib.Core.Bool.{Bool, true, false, cond, not}
 use mathlib.Core.Path.{_≡_, refl, subst⁻¹}
-use mathlib.Core.List.{List, [], _∷_, map}
+use mathlib.Core.List.{List, [], _∷_}
 use lib.Dec.{eqb, ltb}
-use lib.ListN.{length, getD, set}
-use Rattle.protocol.specs.Format.{Sync, lock, unlock, wait, signal, broadcast, barrier, startWorker, exit, Step, own, sync, byName, Plan, planOf, upTo}
-use Rattle.protocol.specs.Steps.{QueueName, atBarrier, Fate, going, Worker, newWorker, fateAs, stepAt}
-use Rattle.protocol.specs.Rounds.{State, workerAt, queueOf, fateIn, Ruling, member, remove, isAsleep, ruleOf, freed, apply, syncMove, newRound}
-use Rattle.protocol.specs.Turns.{workersOf, start, firstWorker, can, behind, closing, moveBy, move, turn, play}
+use lib.ListN.{length, getD}
+use Rattle.protocol.specs.Format.{Sync, lock, unlock, wait, signal, broadcast, barrier, startWorker, exit, byName, Plan, planOf}
+use Rattle.protocol.specs.Steps.{QueueName, atBarrier, Fate, Worker, newWorker}
+use Rattle.protocol.specs.Rounds.{State, Ruling, member, remove, isAsleep, ruleOf}
+use Rattle.protocol.specs.Turns.{start, can, move, turn, play}
 use Rattle.protocol.specs.Calls.{playedFrom}
 use Rattle.protocol.specs.Demands.{occurs, HeldOnce}
-use Rattle.protocol.proofs.Counting.{occurs-same, occurs-other, member-none, freed-at}
+use Rattle.protocol.proofs.Counting.{occurs-same, occurs-other, member-none}
 use Rattle.protocol.proofs.Locks.{file-named}
 use Rattle.protocol.proofs.OwnMoves.{own-leaves}
+use Rattle.protocol.proofs.EachWorker.{KeptBy, all-moved, all-first}
 
 abbrev Once : List ℕ → Type 0
 Once ks = (k : ℕ) → occurs k ks ≤ 1
@@ -61,50 +62,20 @@ module _ (plan : Plan) (named : plan .locks ≡ byName) (queue : QueueName → L
   ruled-once (startWorker w) = by-test (isAsleep (fates w)) _ _ kept kept
   ruled-once exit = by-test (not (eqb (length held) 0)) _ _ kept kept
 
--- the workers
-
-abbrev AllOnce : List Worker → Type 0
-AllOnce vs = (w : ℕ) → Once (getD vs w newWorker .held)
-
-one-set : (vs : List Worker) (h : ℕ) (v : Worker) → AllOnce vs → Once (v .held) → AllOnce (set vs h v)
-one-set [] h v all p w = all w
-one-set (u ∷ us) zero v all p zero = p
-one-set (u ∷ us) zero v all p (suc w) = all (suc w)
-one-set (u ∷ us) (suc h) v all p zero = all zero
-one-set (u ∷ us) (suc h) v all p (suc w) = one-set us h v (λ i. all (suc i)) p w
-
-some-freed : (out : List ℕ) (vs : List Worker) → AllOnce vs → AllOnce (freed out vs)
-some-freed out vs all w = subst⁻¹ (λ (v : Worker). Once (v .held)) (freed-at out vs w) (go (member w out))
-  where
-    go : (b : Bool) → Once (cond b (fateAs going (getD vs w newWorker)) (getD vs w newWorker) .held)
-    go true = all w
-    go false = all w
-
-none-yet : (plan : Plan) (ws : List ℕ) → AllOnce (map (firstWorker plan) ws)
-unfolding newWorker occurs
-none-yet plan [] w k = omega arith
-none-yet plan (v ∷ vs) zero k = omega arith
-none-yet plan (v ∷ vs) (suc w) k = none-yet plan vs w k
-
 -- every move, every list of turns
 
-closing-once : (ws : List ℕ) (s : State) → HeldOnce s → HeldOnce (closing ws s)
-unfolding newRound
-closing-once [] s all = all
-closing-once (w ∷ ws) s all = all
+abbrev HoldsOnce : Worker → Type 0
+HoldsOnce v = Once (v .held)
 
 module _ (plan : Plan) (named : plan .locks ≡ byName) where
-  move-once : (s : State) (w : ℕ) → HeldOnce s → HeldOnce (move plan s w)
-  unfolding move apply
-  move-once s w all = go (stepAt plan w (workerAt s w .place)) (workerAt s w .arrived)
-    where
-      go : (t : Step) (b : Bool) → HeldOnce (moveBy plan t b w s)
-      go (own o) b =
-          one-set (s .workers) w _ all (subst⁻¹ Once (own-leaves (s .memory) o (workerAt s w) .held) (all w))
-      go (sync y) false = one-set (s .workers) w _ all (all w)
-      go (sync y) true =
-          closing-once (syncMove plan y w (behind (s .list)) s .list) (syncMove plan y w (behind (s .list)) s)
-          (one-set (freed _ (s .workers)) w _ (some-freed _ (s .workers) all) (ruled-once plan named (queueOf s) (fateIn s) (workerAt s w .held) (all w) y))
+  once-kept : KeptBy plan HoldsOnce
+  once-kept =
+      record {
+        owns = λ memory o v once. subst⁻¹ Once (own-leaves memory o v .held) once;
+        arrives = λ v once. once;
+        fates = λ f v once. once;
+        ruled = λ queue fates v y once. ruled-once plan named queue fates (v .held) once y;
+      }
 
   play-once : (s : State) (turns : List ℕ) → HeldOnce s → HeldOnce (play plan s turns)
   unfolding play turn
@@ -112,11 +83,15 @@ module _ (plan : Plan) (named : plan .locks ≡ byName) where
   play-once s (w ∷ ws) all = play-once (cond (can s w) (move plan s w) s) ws (go (can s w))
     where
       go : (b : Bool) → HeldOnce (cond b (move plan s w) s)
-      go true = move-once s w all
+      go true = all-moved once-kept s w all
       go false = all
+
+none-yet : HoldsOnce newWorker
+unfolding newWorker occurs
+none-yet k = omega arith
 
 -- whatever a file's turns are
 pub held-once : (file memory turns : List ℕ) → HeldOnce (playedFrom (planOf file) memory turns)
-unfolding start
 held-once file memory turns =
-    play-once (planOf file) (file-named file) (start (planOf file) memory) turns (none-yet (planOf file) (upTo (workersOf (planOf file))))
+    play-once (planOf file) (file-named file) (start (planOf file) memory) turns
+    (all-first (once-kept (planOf file) (file-named file)) none-yet memory)

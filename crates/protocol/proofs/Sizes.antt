@@ -40,7 +40,7 @@ move-size plan s w = go (stepAt plan w (workerAt s w .place)) (workerAt s w .arr
         ap length (closed-memory (syncMove plan y w (behind (s .list)) s))
         ∙ settle-size (ruleOf plan (queueOf s) (fateIn s) (workerAt s w .held) y .bytes) (workerAt s w .copies) (s .memory)
 
-play-size : (plan : Plan) (s : State) (turns : List ℕ) → length (play plan s turns .memory) ≡ length (s .memory)
+pub play-size : (plan : Plan) (s : State) (turns : List ℕ) → length (play plan s turns .memory) ≡ length (s .memory)
 unfolding play turn
 play-size plan s [] = refl
 play-size plan s (w ∷ ws) = play-size plan (turn plan s w) ws ∙ go (can s w)

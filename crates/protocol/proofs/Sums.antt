@@ -99,3 +99,36 @@ four-bytes k h = omega arith
 pub sum-shown : (s : State) → sumOf (s .memory) < 4294967296 → SumShown (buffersOf s)
 unfolding reportBytes countFrom
 sum-shown s h = four-bytes (sumOf (s .memory)) h
+
+-- ---- sums, by what stands at each address
+
+unfoldable sumBy : (ℕ → ℕ) → ℕ → ℕ
+sumBy f zero = 0
+sumBy f (suc n) = word (f 0) (f 1) + sumBy (λ a. f (suc (suc a))) n
+
+no-bytes : (n : ℕ) → sumBy (λ a. 0) n ≡ 0
+unfolding sumBy
+no-bytes zero = refl
+no-bytes (suc n) = omega (arith, no-bytes n)
+
+by-bytes : (memory : List ℕ) (n : ℕ) → length memory ≤ 2 * n → sumOf memory ≡ sumBy (λ a. getD memory a 0) n
+unfolding sumOf sumBy
+by-bytes [] n h = sym (no-bytes n)
+by-bytes (x ∷ []) zero h = absurd (omega arith)
+by-bytes (x ∷ []) (suc n) h = omega (arith, no-bytes n)
+by-bytes (x ∷ y ∷ rest) zero h = absurd (omega arith)
+by-bytes (x ∷ y ∷ rest) (suc n) h = omega (arith, by-bytes rest n (omega arith))
+
+in-balance : (f g h k : ℕ → ℕ) (n : ℕ) → ((a : ℕ) → f a + g a ≡ h a + k a) → sumBy f n + sumBy g n ≡ sumBy h n + sumBy k n
+unfolding sumBy
+in-balance f g h k zero e = refl
+in-balance f g h k (suc n) e =
+    omega
+    (arith, e 0, e 1, in-balance (λ a. f (suc (suc a))) (λ a. g (suc (suc a))) (λ a. h (suc (suc a))) (λ a. k (suc (suc a))) n (λ a. e (suc (suc a))))
+
+-- two and two memories: what is in balance at each address is so of their sums
+pub sums-balance : (p q r s : List ℕ) → ((a : ℕ) → getD p a 0 + getD q a 0 ≡ getD r a 0 + getD s a 0) → sumOf p + sumOf q ≡ sumOf r + sumOf s
+sums-balance p q r s e =
+    let n = length p + length q + length r + length s in
+    let far = in-balance (λ a. getD p a 0) (λ a. getD q a 0) (λ a. getD r a 0) (λ a. getD s a 0) n e in
+    omega (arith, by-bytes p n (omega arith), by-bytes q n (omega arith), by-bytes r n (omega arith), by-bytes s n (omega arith), far)

@@ -8,7 +8,7 @@ use Rattle.protocol.specs.RoundRun.{roundRun}
 use Rattle.protocol.specs.Listing.{listedTurns}
 use Rattle.protocol.specs.Calls.{memoryLength, logLength, reportLength, workLength, Buffers, Reply, buffersOf, playedFrom, run}
 
--- "Turns are the listing program's, save in case 10." That has no turns. Those of Six have three of worker 0.
+-- "Turns are the listing program's, save in case 10." That has no turns. Those of Six, and two of Seven, have three of worker 0.
 pub data Fed : Type 0 where
   listing nothing thrice : Fed
 
@@ -67,7 +67,7 @@ rec worker op register number = 0x4D ∷ 0x50 ∷ worker ∷ op ∷ register ∷
 abbrev pub planRec : ℕ → List ℕ
 planRec n = rec n 0 0 0
 
-abbrev sleepRec : ℕ → List ℕ
+abbrev pub sleepRec : ℕ → List ℕ
 sleepRec w = rec w 2 0 0
 
 -- a record of the log, in a round below 256
@@ -104,7 +104,7 @@ abbrev pub race : List ℕ
 race = planRec 2 ++ racer 0 2 0 ++ racer 1 0 2
 
 -- set a register to a number and store it at an address; and at 0
-abbrev storesAt : ℕ → ℕ → ℕ → List ℕ
+abbrev pub storesAt : ℕ → ℕ → ℕ → List ℕ
 storesAt w number address = rec w 16 0 number ++ rec w 18 0 address
 
 abbrev pub stores : ℕ → ℕ → List ℕ

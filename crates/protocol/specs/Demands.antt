@@ -1,5 +1,6 @@
 -- Demand 3: the outcome does not hang on who moved first. What is claimed, of the definitions and of the bytes that a run leaves. And
--- document 02, Three, of the sum, Four, of many plans, Five, of locks by name, and Six, of which steps synchronise.
+-- document 02, Three, of the sum, Four, of many plans, Five, of locks by name, Six, of which steps synchronise, and Seven, of bytes that nobody
+-- named.
 use Prim.Native.Nat.{ℕ, zero, suc, _+_, _-_, _<_, _≤_}
 use mathlib.Core.Bool.{Bool, true, false, cond, not, _&&_, _||_}
 use mathlib.Core.Path.{_≡_}
@@ -16,9 +17,10 @@ use Rattle.protocol.specs.Rounds.{Entry, State, workerAt, queueOf, fateI
 use Rattle.protocol.specs.Turns.{workersOf, start, movingTurns, ended}
 use Rattle.protocol.specs.RoundRun.{moveLimit, roundRun}
 use Rattle.protocol.specs.Sum.{sumOf, keptSum}
-use Rattle.protocol.specs.Report.{logBytes, reportBytes}
-use Rattle.protocol.specs.Calls.{Buffers, buffersOf, logLength, playedFrom}
-use Rattle.protocol.specs.Batch.{Batch, fileAt, partsOf}
+use Rattle.protocol.specs.Report.{logBytes, reportBytes, reportSum, butForSum}
+use Rattle.protocol.specs.Calls.{Buffers, Reply, buffersOf, logLength, workLength, playedFrom}
+use Rattle.protocol.specs.Batch.{Batch, BatchReply, fileAt, partsOf}
+use Rattle.protocol.specs.Named.{named, SameNamed}
 
 -- "A whole cycle is n turns, one right behind the other, that name each of the n workers once"
 unfoldable pub occurs : ℕ → List ℕ → ℕ
@@ -76,7 +78,7 @@ SumKept plan memory turns = keptSum plan (start plan memory) (sumOf memory) turn
 
 -- .. and of the bytes that an accepted run leaves: the report's last four, low byte first, are the sum of the words of the memory that is left
 abbrev pub SumShown : Buffers → Type 0
-SumShown left = longAt (left .report) 16 ≡ sumOf (left .memory)
+SumShown left = longAt (left .report) reportSum ≡ sumOf (left .memory)
 
 -- Four, of one plan's parts, as lent and as left, and of its answer
 pub record PlanLeft (file : List ℕ) (before after : Buffers) (answer : ℕ) : Type 0 where
@@ -141,3 +143,59 @@ SyncsByStep file =
     (w k : ℕ)
     → k < length (stepsOf (planOf file) w)
     → synchronises (recordAt (records file) (firstIn (records file) w + k) .op) ≡ syncs (stepAt (planOf file) w k)
+
+-- Seven: "a byte that no load or store of any worker covers has its starting value after any turns": of the starting memory, and the memory left
+abbrev pub UnnamedKept : Plan → List ℕ → List ℕ → Type 0
+UnnamedKept plan memory left = (a : ℕ) → named plan a ≡ false → getD left a 0 ≡ getD memory a 0
+
+-- "Two runs of one plan under one turn list, from memories that differ only in such bytes": of the two memories, and the states that are left
+pub record SameButUnnamed (memory other : List ℕ) (s t : State) : Type 0 where
+  -- "have equal logs, reports but for the sum"
+  pub log : s .log ≡ t .log
+  pub report : butForSum (reportBytes s) ≡ butForSum (reportBytes t)
+  -- "and memory elsewhere": wherever the two memories were equal
+  pub elsewhere : (a : ℕ) → getD memory a 0 ≡ getD other a 0 → getD (s .memory) a 0 ≡ getD (t .memory) a 0
+  -- and the sums differ by what those of the two memories differ by, which is the bytes nobody named, each with its weight
+  pub sums : sumOf (s .memory) + sumOf other ≡ sumOf (t .memory) + sumOf memory
+
+-- .. and of the bytes that two accepted runs leave
+pub record LeftAlike (memory other : List ℕ) (left right : Buffers) : Type 0 where
+  pub log : left .log ≡ right .log
+  pub report : butForSum (left .report) ≡ butForSum (right .report)
+  pub elsewhere : (a : ℕ) → getD memory a 0 ≡ getD other a 0 → getD (left .memory) a 0 ≡ getD (right .memory) a 0
+  pub sums : sumOf (left .memory) + sumOf other ≡ sumOf (right .memory) + sumOf memory
+  pub work : (left .work ≡ replicate workLength 0) × (right .work ≡ replicate workLength 0)
+
+-- Two calls with one file and one turn list: what is lent to them differs in bytes of memory that nobody named, and in the old contents of
+-- log, report and work.
+pub record LentAlike (plan : Plan) (b c : Buffers) : Type 0 where
+  pub memory : SameNamed plan (b .memory) (c .memory)
+  pub log : length (b .log) ≡ length (c .log)
+  pub report : length (b .report) ≡ length (c .report)
+  pub work : length (b .work) ≡ length (c .work)
+
+-- They are refused alike, and each leaves what it was lent; or accepted alike.
+pub record RepliedAlike (b c : Buffers) (r q : Reply) : Type 0 where
+  pub returned : r .returned ≡ q .returned
+  pub refused : (r .returned ≡ 0 → ⊥) → (r .buffers ≡ b) × (q .buffers ≡ c)
+  pub accepted : r .returned ≡ 0 → LeftAlike (b .memory) (c .memory) (r .buffers) (q .buffers)
+
+-- The same of two calls with many plans: of each plan's memory, and plan by plan.
+pub record BatchLentAlike (count : ℕ) (files lengths : List ℕ) (b c : Batch) : Type 0 where
+  pub each : (k : ℕ) → k < count → SameNamed (planOf (fileAt files lengths k)) (partsOf k b .memory) (partsOf k c .memory)
+  pub memories : length (b .memories) ≡ length (c .memories)
+  pub logs : length (b .logs) ≡ length (c .logs)
+  pub reports : length (b .reports) ≡ length (c .reports)
+  pub answers : length (b .answers) ≡ length (c .answers)
+  pub work : length (b .work) ≡ length (c .work)
+
+pub record BatchRepliedAlike (count : ℕ) (b c : Batch) (r q : BatchReply) : Type 0 where
+  pub returned : r .returned ≡ q .returned
+  pub refused : (r .returned ≡ 0 → ⊥) → (r .batch ≡ b) × (q .batch ≡ c)
+  pub answers : r .returned ≡ 0 → (k : ℕ) → k < count → getD (r .batch .answers) k 0 ≡ getD (q .batch .answers) k 0
+  pub accepted :
+      r .returned ≡ 0
+      → (k : ℕ)
+      → k < count
+      → getD (r .batch .answers) k 0 ≡ 0
+      → LeftAlike (partsOf k b .memory) (partsOf k c .memory) (partsOf k (r .batch)) (partsOf k (q .batch))

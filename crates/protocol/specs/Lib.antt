@@ -26,9 +26,11 @@ pub mod Calls
 pub mod Listing
 -- Four: many plans in one call.
 pub mod Batch
+-- Seven: the bytes that a plan names.
+pub mod Named
 -- "Plan file" and "Calls and buffers" as a description: what a well-formed file is, and what a run accepts.
 pub mod WellFormed
 -- "Who can cause which refusal" as a description: each refusal's condition, and the order of the tests.
 pub mod Conditions
--- Demand 3; and what the sum (Three), many plans (Four) and locks by name (Five) are to show.
+-- Demand 3; and what the sum (Three), many plans (Four), locks by name (Five), the list of Six and bytes nobody named (Seven) are to show.
 pub mod Demands

@@ -3,7 +3,7 @@ use Prim.Native.Nat.{ℕ, _/_, _%_}
 use mathlib.Core.Bool.{Bool, true, false, cond, _&&_}
 use mathlib.Core.List.{List, [], _∷_, _++_, map}
 use lib.Dec.{ltb}
-use lib.ListN.{length}
+use lib.ListN.{length, take}
 use Rattle.protocol.specs.Format.{workersLimit, word, upTo}
 use Rattle.protocol.specs.Steps.{onCondition, atBarrier, Fate, going, exited, failed, asleep, waiting, Worker}
 use Rattle.protocol.specs.Rounds.{Entry, State, workerAt}
@@ -75,3 +75,10 @@ reportBytes s =
     ∷ length (s .workers)
     ∷ (twoBytes (s .moves)
     ++ (twoBytes (s .rounds) ++ (twoBytes (length (s .log)) ++ (fateBytes s ++ fourBytes (sumOf (s .memory))))))
+
+-- where the sum begins; and Seven: "reports but for the sum"
+abbrev pub reportSum : ℕ
+reportSum = 16
+
+abbrev pub butForSum : List ℕ → List ℕ
+butForSum report = take reportSum report

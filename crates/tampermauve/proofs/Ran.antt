@@ -1,4 +1,4 @@
--- What the call returns; and of what it leaves demand 3, the sum, and that it is what it was by count.
+-- What the call returns; and of what it leaves demand 3, the sum, that it is what it was by count, and what is said of bytes nobody named.
 use Prim.Native.Nat.{ℕ}
 use mathlib.Core.Bool.{Bool, true, false}
 use mathlib.Core.Path.{_≡_, refl, sym, ap, _∙_, subst⁻¹}
@@ -11,9 +11,10 @@ use Rattle.protocol.specs.Refusals.{Verdict, accepted, refused, codeOf, check}
 use Rattle.protocol.specs.Turns.{workersOf}
 use Rattle.protocol.specs.RoundRun.{roundRun}
 use Rattle.protocol.specs.Calls.{Buffers, Reply, buffersOf, misfit, namesNobody, turnsLimit, playedFrom, replyOf, verdictBy, runVerdict, run}
-use Rattle.protocol.specs.Demands.{Demand3Bytes, SumShown, noLockFailed, LeftAsByCount}
+use Rattle.protocol.specs.Demands.{Demand3Bytes, SumShown, noLockFailed, LeftAsByCount, UnnamedKept, LentAlike, RepliedAlike}
 use Rattle.protocol.proofs.Bytes.{demand3-bytes}
 use Rattle.protocol.proofs.Naming.{by-count-bytes}
+use Rattle.protocol.proofs.UnnamedBytes.{call-keeps, calls-alike}
 use Rattle.protocol.proofs.Numbered.{numbered}
 use Rattle.admission.specs.Run.{answerBy}
 use Rattle.tampermauve.specs.Run.{Ran}
@@ -49,7 +50,8 @@ module _ (file turns : List ℕ) (b : Buffers) where
   pub ran : (r : ℕ) (after : Buffers) → _≡_ {A = Reply} (record { returned = r; buffers = after }) (run file turns b) → (r ≡ 0 → SumShown after)
       → Ran file turns b r after
   unfolding runVerdict
-  ran r after same sum = record { same = same; demand3 = carried; sum = sum; byCount = counted }
+  ran r after same sum =
+      record { same = same; demand3 = carried; sum = sum; byCount = counted; unnamed = kept; beside = alike }
     where
       verdict : r ≡ 0 → runVerdict file turns b ≡ accepted
       verdict z = none-refused (runVerdict file turns b) (sym returned-code ∙ (sym (ap (λ (o : Reply). o .returned) same) ∙ z))
@@ -63,6 +65,12 @@ module _ (file turns : List ℕ) (b : Buffers) where
       counted z clean =
           subst⁻¹ (λ (left : Buffers). LeftAsByCount (planOf file) (b .memory) turns left) (ap (λ (o : Reply). o .buffers) same)
           (by-count-bytes file turns b (verdict z) clean)
+
+      kept : UnnamedKept (planOf file) (b .memory) (after .memory)
+      kept = subst⁻¹ (λ (o : Reply). UnnamedKept (planOf file) (b .memory) (o .buffers .memory)) same (call-keeps file turns b)
+
+      alike : (other : Buffers) → LentAlike (planOf file) b other → RepliedAlike b other (record { returned = r; buffers = after }) (run file turns other)
+      alike other lent = subst⁻¹ (λ (o : Reply). RepliedAlike b other o (run file turns other)) same (calls-alike file turns b other lent)
 
   pub refusal : (r : ℕ) → r ≡ answerBy file turns (misfit b) → (r ≡ 0 → ⊥) → _≡_ {A = Reply} (record { returned = r; buffers = b }) (run file turns b)
   unfolding run runVerdict

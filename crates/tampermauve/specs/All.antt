@@ -5,10 +5,10 @@ use mathlib.Core.Path.{_≡_}
 use mathlib.Core.List.{List}
 use lib.Dec.{ltb}
 use lib.ListN.{length, getD, replicate}
-use Rattle.protocol.specs.Format.{workersLimit}
+use Rattle.protocol.specs.Format.{workersLimit, planOf}
 use Rattle.protocol.specs.Calls.{Buffers, workLength}
-use Rattle.protocol.specs.Batch.{Batch, BatchReply, answerOf, separate, runPlans, runAll}
-use Rattle.protocol.specs.Demands.{EachLeft}
+use Rattle.protocol.specs.Batch.{Batch, BatchReply, fileAt, partsOf, answerOf, separate, runPlans, runAll}
+use Rattle.protocol.specs.Demands.{EachLeft, UnnamedKept, BatchLentAlike, BatchRepliedAlike}
 use Rattle.engine.specs.Turning.{stretch, cycleTurns}
 
 abbrev pub batch : List ℕ → List ℕ → List ℕ → List ℕ → List ℕ → Batch
@@ -41,7 +41,13 @@ pub record RanPlans (files lengths : List ℕ) (k : ℕ) (before : Batch) (accep
   pub cleared : accepted ≡ true → runPlans files lengths k before .work ≡ replicate workLength 0
   pub lent : accepted ≡ false → (runPlans files lengths k before .work ≡ before .work) × (after .work ≡ before .work)
 
--- what is returned and left is what the definition gives; and each accepted plan has been run to its end, and no refused one was touched
+-- what is returned and left is what the definition gives; and each accepted plan has been run to its end, and no refused one was touched; bytes
+-- of a plan's memory that nobody named are as they were lent, and a call which is lent others there is answered alike
 pub record RanAll (count : ℕ) (files lengths : List ℕ) (before : Batch) (r : ℕ) (after : Batch) : Type 0 where
   pub same : _≡_ {A = BatchReply} (record { returned = r; batch = after }) (runAll count files lengths before)
   pub each : r ≡ 0 → EachLeft count files lengths before after
+  pub unnamed : r ≡ 0 → (k : ℕ) → k < count → UnnamedKept (planOf (fileAt files lengths k)) (partsOf k before .memory) (partsOf k after .memory)
+  pub beside :
+      (other : Batch)
+      → BatchLentAlike count files lengths before other
+      → BatchRepliedAlike count before other (record { returned = r; batch = after }) (runAll count files lengths other)

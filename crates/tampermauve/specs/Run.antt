@@ -9,7 +9,7 @@ use Rattle.protocol.specs.Turns.{ended}
 use Rattle.protocol.specs.RoundRun.{roundRun}
 use Rattle.protocol.specs.Report.{reportBytes}
 use Rattle.protocol.specs.Calls.{Buffers, Reply, reportLength, lentLog, playedFrom, run}
-use Rattle.protocol.specs.Demands.{Demand3Bytes, SumShown, noLockFailed, LeftAsByCount}
+use Rattle.protocol.specs.Demands.{Demand3Bytes, SumShown, noLockFailed, LeftAsByCount, UnnamedKept, LentAlike, RepliedAlike}
 use Rattle.plan.specs.declared.check.Layout.{Layout}
 use Rattle.engine.specs.Turning.{Playing}
 
@@ -31,9 +31,15 @@ pub record Performed (file turns : List ℕ) (whole : Bool) (start memory log re
   pub sameReport : report ≡ reportBytes (playedFrom (planOf file) start played)
 
 -- what is returned and left is what the definition gives; and, of the bytes that an accepted run leaves, demand 3, the sum, and that they are
--- what they were by count where no lock fails
+-- what they were by count where no lock fails; and of every run that bytes nobody named are as they were lent, and that a call which is lent
+-- others there is answered alike
 pub record Ran (file turns : List ℕ) (before : Buffers) (r : ℕ) (after : Buffers) : Type 0 where
   pub same : _≡_ {A = Reply} (record { returned = r; buffers = after }) (run file turns before)
   pub demand3 : r ≡ 0 → Demand3Bytes (planOf file) (before .memory) turns after
   pub sum : r ≡ 0 → SumShown after
   pub byCount : r ≡ 0 → noLockFailed (roundRun (planOf file) (before .memory) .log) ≡ true → LeftAsByCount (planOf file) (before .memory) turns after
+  pub unnamed : UnnamedKept (planOf file) (before .memory) (after .memory)
+  pub beside :
+      (other : Buffers)
+      → LentAlike (planOf file) before other
+      → RepliedAlike before other (record { returned = r; buffers = after }) (run file turns other)
