@@ -110,6 +110,8 @@ pub mod Table
 pub mod BatchTable
 -- Plans of Seven as a third, and the bytes that they name.
 pub mod NamedTable
+-- What is to be computed of a case, and what demand 3 gives.
+pub mod Worked
 -- The definitions yield all three.
 pub mod Cases
 -- The definitions yield case 1's text, byte by byte.

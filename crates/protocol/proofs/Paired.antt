@@ -1,6 +1,6 @@
 -- A working copy is as long as its twin, after any turns.
 -- Assumes nothing.
-use Prim.Native.Nat.{ℕ, _+_}
+use Prim.Native.Nat.{ℕ}
 use mathlib.Core.Path.{_≡_, _∙_, subst⁻¹}
 use mathlib.Core.List.{List}
 use lib.ListN.{length, length-set}
@@ -33,7 +33,7 @@ paired-byte memory copies a byte all = all-set Paired absent copies (pageOf a) _
 
 paired-word : (memory : List ℕ) (copies : Copies) (a number : ℕ) → AllPaired copies → AllPaired (storeWord memory copies a number)
 unfolding storeWord
-paired-word memory copies a number all = paired-byte memory _ (a + 1) _ (paired-byte memory copies a _ all)
+paired-word memory copies a number all = paired-byte memory _ _ _ (paired-byte memory copies a _ all)
 
 abbrev pub PairedWorker : Worker → Type 0
 PairedWorker v = AllPaired (v .copies)

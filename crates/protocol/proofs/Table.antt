@@ -22,8 +22,11 @@ pub record Case : Type 0 where
   pub log : List ℕ
   pub report : List ℕ
 
-unfoldable pub turnsOf : Case → List ℕ
-turnsOf c = elim (c .fed) [ listing ↦ listedTurns (planOf (c .file)) | nothing ↦ [] | thrice ↦ replicate 3 0 ]
+unfoldable pub turnsFor : Fed → List ℕ → List ℕ
+turnsFor fed file = elim fed [ listing ↦ listedTurns (planOf file) | nothing ↦ [] | thrice ↦ replicate 3 0 ]
+
+abbrev pub turnsOf : Case → List ℕ
+turnsOf c = turnsFor (c .fed) (c .file)
 
 -- bytes, then zeros
 unfoldable pub padded : ℕ → List ℕ → List ℕ
@@ -39,15 +42,16 @@ lentTo c =
       work = replicate workLength 170;
     }
 
+-- what the round-by-round run leaves
+unfoldable pub roundReply : Case → Reply
+roundReply c = record { returned = 0; buffers = buffersOf (roundRun (planOf (c .file)) (lentTo c .memory)) }
+
 -- What the definitions yield: by turns and, where the plan runs to its end, by the round-by-round run.
+abbrev pub yieldsBy : Fed → Case → List Reply
+yieldsBy fed c = run (c .file) (turnsFor fed (c .file)) (lentTo c) ∷ elim fed [ listing ↦ roundReply c ∷ [] | nothing ↦ [] | thrice ↦ [] ]
+
 unfoldable pub yields : Case → List Reply
-yields c =
-    run (c .file) (turnsOf c) (lentTo c)
-    ∷ elim (c .fed) [
-      | listing ↦ record { returned = 0; buffers = buffersOf (roundRun (planOf (c .file)) (lentTo c .memory)) } ∷ []
-      | nothing ↦ []
-      | thrice ↦ []
-    ]
+yields c = yieldsBy (c .fed) c
 
 unfoldable pub expected : Case → Reply
 expected c =
@@ -57,8 +61,11 @@ expected c =
           record { memory = padded memoryLength (c .memory); log = padded logLength (c .log); report = c .report; work = replicate workLength 0 };
     }
 
+abbrev pub expectsBy : Fed → Case → List Reply
+expectsBy fed c = expected c ∷ elim fed [ listing ↦ expected c ∷ [] | nothing ↦ [] | thrice ↦ [] ]
+
 unfoldable pub expects : Case → List Reply
-expects c = expected c ∷ elim (c .fed) [ listing ↦ expected c ∷ [] | nothing ↦ [] | thrice ↦ [] ]
+expects c = expectsBy (c .fed) c
 
 -- a record of a plan file
 abbrev pub rec : ℕ → ℕ → ℕ → ℕ → List ℕ
