@@ -14,7 +14,9 @@ pub mod counts;
 pub mod format;
 pub mod generate;
 pub mod listing;
+pub mod named;
 pub mod outcome;
+pub mod pair;
 pub mod round_run;
 pub mod turn_machine;
 
@@ -23,6 +25,7 @@ pub use calls::{check_code, run, run_counted};
 pub use check::{check, Plan, Refusal, Step};
 pub use counts::Counts;
 pub use listing::listing;
+pub use named::Named;
 pub use outcome::Outcome;
 pub use round_run::play_rounds;
 pub use turn_machine::{play_turns, Machine};
