@@ -1,13 +1,14 @@
 //! One call of several plans, made on an engine and on the simulator, and what
 //! differed.
 
-use simulator::batch::run_separately;
+use simulator::batch::{run_separately, total, UNITS};
+use simulator::format::LENGTH_BYTES;
 use simulator::generate::Batch;
 
 use crate::call::{answer_differs, Difference, Guarded};
 use crate::engine::{Engine, Told};
 
-const NAMES: [&str; 7] = [
+pub const NAMES: [&str; 7] = [
     "memories", "logs", "reports", "answers", "work", "files", "lengths",
 ];
 
@@ -44,8 +45,33 @@ fn contents(batch: &Batch) -> [&[u8]; BUFFERS] {
     ]
 }
 
-/// Makes a call on an engine with lengths told as `tell` changes them, and
-/// compares its answer and every byte.
+/// Whether buffers and lengths fit the count, but work perhaps.
+pub fn fits(batch: &Batch) -> bool {
+    let right =
+        |which: usize| batch.count.checked_mul(UNITS[which]) == Some(batch.lent[which].len());
+    batch.count.checked_mul(LENGTH_BYTES) == Some(batch.lengths.len())
+        && (0..UNITS.len()).all(right)
+        && total(&batch.lengths) == batch.files.len() as u64
+}
+
+/// Makes a call on an engine with lengths told as `tell` changes them: its
+/// answer, and all buffers behind it.
+pub fn make_told(
+    engine: &Engine,
+    batch: &Batch,
+    shift: usize,
+    tell: impl Fn(&mut [Told; BUFFERS]),
+) -> (u32, [Guarded; BUFFERS]) {
+    let mut all = contents(batch).map(|content| Guarded::new(content, shift));
+    let mut told = all.each_mut().map(|buffer| buffer.told());
+    tell(&mut told);
+    let [memories, logs, reports, answers, work, files, lengths] = told;
+    let lent = [memories, logs, reports, answers, work];
+    let answer = engine.run_all(batch.count, files, lengths, lent);
+    (answer, all)
+}
+
+/// Makes such a call and compares its answer and every byte.
 fn compare_told(
     engine: &Engine,
     batch: &Batch,
@@ -53,12 +79,7 @@ fn compare_told(
     verdict: &BatchVerdict,
     tell: impl Fn(&mut [Told; BUFFERS]),
 ) -> Option<Difference> {
-    let mut all = contents(batch).map(|content| Guarded::new(content, shift));
-    let mut told = all.each_mut().map(|buffer| buffer.told());
-    tell(&mut told);
-    let [memories, logs, reports, answers, work, files, lengths] = told;
-    let lent = [memories, logs, reports, answers, work];
-    let got = engine.run_all(batch.count, files, lengths, lent);
+    let (got, all) = make_told(engine, batch, shift, tell);
     let mut difference = answer_differs(verdict.answer, got);
     let wanted = contents(&verdict.after);
     for (name, (buffer, content)) in NAMES.into_iter().zip(all.iter().zip(wanted)) {

@@ -1,6 +1,7 @@
 //! One call, made on an engine and on the simulator, and what differed.
 
 use simulator::format::REPORT_SUM;
+use simulator::pair::Parting;
 use simulator::{check_code, run_counted, Counts};
 
 use crate::engine::{Engine, Told};
@@ -18,9 +19,9 @@ pub struct Call {
     pub lent: [Vec<u8>; 4],
 }
 
-const NAMES: [&str; 6] = ["memory", "log", "report", "work", "file", "turns"];
+pub const NAMES: [&str; 6] = ["memory", "log", "report", "work", "file", "turns"];
 
-/// Where an engine and the simulator part.
+/// Where an engine and the simulator part, or two calls of a pair.
 #[derive(Clone, Debug, PartialEq, Eq)]
 pub enum Difference {
     Answer {
@@ -34,6 +35,8 @@ pub enum Difference {
         expected: u8,
         got: u8,
     },
+    /// What two accepted calls leave, which differ in bytes nobody named.
+    Pair(Parting),
 }
 
 /// What the simulator says of a call.
@@ -84,6 +87,10 @@ impl Guarded {
         }
     }
 
+    pub fn content(&self) -> &[u8] {
+        &self.bytes[self.start..][..self.length]
+    }
+
     pub fn differs(&self, buffer: &'static str, content: &[u8]) -> Option<Difference> {
         let wanted = Guarded::new(content, self.start - GUARD);
         if self.bytes == wanted.bytes {
@@ -115,21 +122,38 @@ pub fn expected(call: &Call) -> (Verdict, [Vec<u8>; 4]) {
     (verdict, after)
 }
 
+/// A call as an engine has made it: its answer, and all buffers behind it.
+pub struct Made {
+    pub answer: u32,
+    pub lent: [Guarded; 4],
+    file: Guarded,
+    turns: Guarded,
+}
+
+/// Makes a call on an engine.
+pub fn make(engine: &Engine, call: &Call, shift: usize) -> Made {
+    let mut made = Made {
+        answer: 0,
+        lent: [0, 1, 2, 3].map(|which: usize| Guarded::new(&call.lent[which], shift)),
+        file: Guarded::new(&call.file, shift),
+        turns: Guarded::new(&call.turns, shift),
+    };
+    let told = made.lent.each_mut().map(|buffer| buffer.told());
+    made.answer = engine.run(made.file.told(), made.turns.told(), told);
+    made
+}
+
 /// Runs a call on both and compares the answers and every byte.
 pub fn compare_run(engine: &Engine, call: &Call, shift: usize) -> (Verdict, Option<Difference>) {
     let (verdict, after) = expected(call);
-    let mut lent = [0, 1, 2, 3].map(|which: usize| Guarded::new(&call.lent[which], shift));
-    let mut file = Guarded::new(&call.file, shift);
-    let mut turns = Guarded::new(&call.turns, shift);
-    let told = lent.each_mut().map(|buffer| buffer.told());
-    let got = engine.run(file.told(), turns.told(), told);
-    let mut difference = answer_differs(verdict.answer, got);
+    let made = make(engine, call, shift);
+    let mut difference = answer_differs(verdict.answer, made.answer);
     for which in 0..4 {
-        difference = difference.or_else(|| lent[which].differs(NAMES[which], &after[which]));
+        difference = difference.or_else(|| made.lent[which].differs(NAMES[which], &after[which]));
     }
     let difference = difference
-        .or_else(|| file.differs(NAMES[4], &call.file))
-        .or_else(|| turns.differs(NAMES[5], &call.turns));
+        .or_else(|| made.file.differs(NAMES[4], &call.file))
+        .or_else(|| made.turns.differs(NAMES[5], &call.turns));
     (verdict, difference)
 }
 

@@ -14,6 +14,7 @@ mod skips;
 mod starts;
 mod sums;
 mod totals;
+pub mod unnamed;
 
 use simulator::format::MEMORY_LENGTH;
 use simulator::generate::draft::step;

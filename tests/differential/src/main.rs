@@ -2,16 +2,18 @@
 //! every buffer, the guard bytes around them included.
 //!
 //! `differential [--engine library|twin|OBJECT] [--seed N] [--count N]
-//! [--seconds N]`. The fixed parts come first, those at the limits of the paper
+//! [--seconds N] [--by simulator|pairs]`. The fixed parts come first, those at the limits of the paper
 //! before all, then `count` random calls, or as many as fit in the seconds. It
 //! ends with 1 at the first difference, and also if a long enough run left a
-//! rule or a limit untried.
+//! rule or a limit untried. `--by pairs` holds nothing against the simulator,
+//! only pairs of calls against each other.
 
 mod batch;
 mod call;
 mod engine;
 mod explain;
 mod limits;
+mod pair;
 mod shrink;
 mod tally;
 mod test;
@@ -37,6 +39,7 @@ struct Options {
     seed: u64,
     count: u64,
     seconds: Option<u64>,
+    pairs_alone: bool,
 }
 
 fn main() -> ExitCode {
@@ -48,7 +51,7 @@ fn main() -> ExitCode {
         Ok(engine) => engine,
         Err(complaint) => return usage(&complaint),
     };
-    let mut test = Test::new(engine, options.seed);
+    let mut test = Test::new(engine, options.seed, options.pairs_alone);
     match play(&mut test, &options) {
         Ok(random) => conclude(&test, &options, random),
         Err(failure) => {
@@ -60,7 +63,10 @@ fn main() -> ExitCode {
 
 fn usage(complaint: &str) -> ExitCode {
     eprintln!("{complaint}");
-    eprintln!("differential [--engine library|twin|OBJECT] [--seed N] [--count N] [--seconds N]");
+    eprintln!(
+        "differential [--engine library|twin|OBJECT] [--seed N] [--count N] [--seconds N] \
+         [--by simulator|pairs]"
+    );
     ExitCode::from(2)
 }
 
@@ -70,6 +76,7 @@ fn options(mut words: impl Iterator<Item = String>) -> Result<Options, String> {
         seed: 1,
         count: 20_000,
         seconds: None,
+        pairs_alone: false,
     };
     while let Some(word) = words.next() {
         let value = words.next().ok_or(format!("{word} needs a value"))?;
@@ -83,16 +90,26 @@ fn options(mut words: impl Iterator<Item = String>) -> Result<Options, String> {
             "--seed" => options.seed = number()?,
             "--count" => options.count = number()?,
             "--seconds" => options.seconds = Some(number()?),
+            "--by" => options.pairs_alone = pairs_alone(&value)?,
             _ => return Err(format!("unknown: {word}")),
         }
     }
     Ok(options)
 }
 
+fn pairs_alone(value: &str) -> Result<bool, String> {
+    match value {
+        "simulator" => Ok(false),
+        "pairs" => Ok(true),
+        _ => Err(format!("neither simulator nor pairs: {value}")),
+    }
+}
+
 /// Plays all parts and gives the count of random calls.
 fn play(test: &mut Test, options: &Options) -> Result<u64, Box<Failure>> {
     test.limits()?;
     test.batches()?;
+    test.pairs()?;
     test.damaged()?;
     test.lengths()?;
     test.vast()?;
@@ -129,8 +146,13 @@ fn conclude(test: &Test, options: &Options, random: u64) -> ExitCode {
     let zero = test.tally.print(test.engine.can_run());
     println!(
         "no difference: engine {}, seed {}, {random} random calls, \
-         {} runs, {} checks and {} batches in all",
-        options.engine, options.seed, test.tally.runs, test.tally.checks, test.tally.batches
+         {} runs, {} checks, {} batches and {} pairs in all",
+        options.engine,
+        options.seed,
+        test.tally.runs,
+        test.tally.checks,
+        test.tally.batches,
+        test.tally.pairs
     );
     if random >= TELLING && !zero.is_empty() {
         println!("never came up: {}", zero.join("; "));

@@ -5,6 +5,7 @@ mod batches;
 mod limits;
 mod logs;
 mod operands;
+mod pairs;
 mod queues;
 mod records;
 mod reports;
@@ -16,6 +17,7 @@ use simulator::Counts;
 
 use crate::batch::BatchVerdict;
 use crate::call::{Call, Verdict};
+use crate::pair::Pair;
 pub use batches::Beyond;
 use limits::Limits;
 pub use reports::SUMS;
@@ -69,6 +71,7 @@ pub struct Tally {
     pub runs: u64,
     pub checks: u64,
     pub batches: u64,
+    pub pairs: u64,
     tried: Counts,
     outcomes: [u64; OUTCOMES.len()],
     ends: [u64; ENDS.len()],
@@ -143,6 +146,18 @@ impl Tally {
     pub fn batch(&mut self, batch: &Batch, verdict: &BatchVerdict) {
         self.batches += 1;
         self.limits.batch(batch, verdict);
+    }
+
+    /// A pair of calls, by its second one.
+    pub fn pair(&mut self, pair: &Pair<Call>, second: &Call, verdict: &Verdict) {
+        self.pairs += 1;
+        self.limits.pair(pair, second, verdict);
+    }
+
+    /// A pair of calls of several plans.
+    pub fn batch_pair(&mut self, first: &Batch, second: &Batch, verdict: &BatchVerdict) {
+        self.pairs += 1;
+        self.limits.batch_pair(first, second, verdict);
     }
 
     /// The kind of a random call of several plans.

@@ -1,5 +1,7 @@
 //! The parts of the test. Each ends at the first difference.
 
+mod pairs;
+
 use simulator::generate::buffers::{noise, LENGTHS};
 use simulator::generate::damage::fault_pairs;
 use simulator::generate::{damaged_files, showcase, Batch, Batches, Rng, Scenario, Scenarios};
@@ -10,6 +12,7 @@ use crate::call::{
 };
 use crate::engine::Engine;
 use crate::limits::{self, batches};
+use crate::pair::Pair;
 use crate::tally::{Beyond, Tally};
 use crate::tiny;
 
@@ -18,9 +21,12 @@ pub enum Tried {
     Check(Call),
     Run(Call),
     Batch(Batch),
+    Pair(Pair<Call>),
+    BatchPair(Pair<Batch>),
 }
 
-/// A call for which engine and simulator differ.
+/// A call for which engine and simulator differ, or a pair of which one call
+/// differs from the other.
 pub struct Failure {
     pub label: String,
     pub tried: Tried,
@@ -32,16 +38,22 @@ pub struct Test {
     pub engine: Engine,
     pub tally: Tally,
     rng: Rng,
+    /// Which calls are made again, and from which memory.
+    of_pairs: Rng,
+    /// Nothing is held against the simulator.
+    pairs_alone: bool,
 }
 
 type Done = Result<(), Box<Failure>>;
 
 impl Test {
-    pub fn new(engine: Engine, seed: u64) -> Self {
+    pub fn new(engine: Engine, seed: u64, pairs_alone: bool) -> Self {
         Test {
             engine,
             tally: Tally::default(),
             rng: Rng::new(!seed),
+            of_pairs: Rng::new(seed),
+            pairs_alone,
         }
     }
 
@@ -59,18 +71,18 @@ impl Test {
         let shift = self.rng.below(16);
         let (answer, difference) = compare_check(&self.engine, &call.file, shift);
         self.tally.check(&call.file, answer);
-        settle(label, call, true, difference)?;
+        self.settle(label, call, true, difference)?;
         if !self.engine.can_run() {
             return Ok(());
         }
         let (verdict, difference) = compare_run(&self.engine, call, shift);
         self.tally.run(call, &verdict);
-        settle(label, call, false, difference)?;
+        self.settle(label, call, false, difference)?;
         if verdict.answer == 0 && verdict.report[0] != 0 {
             self.tally.rounds();
-            settle(label, call, false, compare_rounds(call))?;
+            self.settle(label, call, false, compare_rounds(call))?;
         }
-        Ok(())
+        self.pair_at_times(label, call)
     }
 
     /// Damaged files: every refusal at every kind of record.
@@ -122,7 +134,7 @@ impl Test {
         let call = self.call(&file, &[0, 1, 2], LENGTHS);
         let label = "a length told 4 GiB too long";
         let difference = compare_vast_check(&self.engine, &file);
-        settle(label, &call, true, difference)?;
+        self.settle(label, &call, true, difference)?;
         self.tally.vast();
         if !self.engine.can_run() {
             return Ok(());
@@ -130,7 +142,7 @@ impl Test {
         for which in 0..6 {
             let difference = compare_vast(&self.engine, &call, which);
             self.tally.vast();
-            settle(label, &call, false, difference)?;
+            self.settle(label, &call, false, difference)?;
         }
         Ok(())
     }
@@ -147,7 +159,8 @@ impl Test {
                 let (verdict, difference) = compare_run(&self.engine, &call, 0);
                 self.tally.run(&call, &verdict);
                 self.tally.tiny();
-                settle("a tiny plan", &call, false, difference)?;
+                self.settle("a tiny plan", &call, false, difference)?;
+                self.pair_list_at_times("a tiny plan", &call)?;
             }
         }
         Ok(())
@@ -195,7 +208,7 @@ impl Test {
 
     fn settle_told(&mut self, what: Beyond, batch: &Batch, difference: Option<Difference>) -> Done {
         self.tally.told(what);
-        settle_batch("told beyond the bytes that are there", batch, difference)
+        self.settle_batch("told beyond the bytes that are there", batch, difference)
     }
 
     /// Runs several plans, and holds an accepted call against separate ones.
@@ -204,12 +217,12 @@ impl Test {
         let shift = batch.files.len() % 16;
         let (verdict, difference) = compare_batch(&self.engine, batch, shift);
         self.tally.batch(batch, &verdict);
-        settle_batch(label, batch, difference)?;
+        self.settle_batch(label, batch, difference)?;
         if verdict.answer == 0 {
             self.tally.separate();
-            settle_batch(label, batch, compare_separate(batch, &verdict))?;
+            self.settle_batch(label, batch, compare_separate(batch, &verdict))?;
         }
-        Ok(())
+        self.pair_batch_at_times(label, batch)
     }
 
     /// The random call of several plans of a seed.
@@ -230,6 +243,27 @@ impl Test {
         let label = scenario.label.clone();
         self.try_call(&label, &call_of(scenario))
     }
+
+    /// A difference from the simulator in a call.
+    fn settle(
+        &self,
+        label: &str,
+        call: &Call,
+        by_check: bool,
+        difference: Option<Difference>,
+    ) -> Done {
+        let tried = || match by_check {
+            true => Tried::Check(call.clone()),
+            false => Tried::Run(call.clone()),
+        };
+        fail(label, tried, difference.filter(|_| !self.pairs_alone))
+    }
+
+    /// The same in a call of several plans.
+    fn settle_batch(&self, label: &str, batch: &Batch, difference: Option<Difference>) -> Done {
+        let difference = difference.filter(|_| !self.pairs_alone);
+        fail(label, || Tried::Batch(batch.clone()), difference)
+    }
 }
 
 fn call_of(scenario: Scenario) -> Call {
@@ -243,18 +277,6 @@ fn call_of(scenario: Scenario) -> Call {
             scenario.work,
         ],
     }
-}
-
-fn settle(label: &str, call: &Call, by_check: bool, difference: Option<Difference>) -> Done {
-    let tried = || match by_check {
-        true => Tried::Check(call.clone()),
-        false => Tried::Run(call.clone()),
-    };
-    fail(label, tried, difference)
-}
-
-fn settle_batch(label: &str, batch: &Batch, difference: Option<Difference>) -> Done {
-    fail(label, || Tried::Batch(batch.clone()), difference)
 }
 
 fn fail(label: &str, tried: impl Fn() -> Tried, difference: Option<Difference>) -> Done {

@@ -1,9 +1,11 @@
 //! Cutting a failing call of several plans down.
 
-use simulator::batch::{cut, total, UNITS};
-use simulator::format::{LENGTH_BYTES, RECORD_LENGTH};
+use simulator::batch::{cut, UNITS};
+use simulator::format::RECORD_LENGTH;
 use simulator::generate::batches::lengths_of;
 use simulator::generate::Batch;
+
+use crate::batch::fits;
 
 /// Shrinking ends after so many tries.
 const MOST_TRIES: usize = 4_000;
@@ -38,15 +40,6 @@ fn smaller(batch: &Batch) -> impl Iterator<Item = Batch> + '_ {
         candidate
     });
     fewer.chain(still).chain(shorter)
-}
-
-/// Its buffers fit its count, but work perhaps.
-fn fits(batch: &Batch) -> bool {
-    let right =
-        |which: usize| batch.count.checked_mul(UNITS[which]) == Some(batch.lent[which].len());
-    batch.count.checked_mul(LENGTH_BYTES) == Some(batch.lengths.len())
-        && (0..UNITS.len()).all(right)
-        && total(&batch.lengths) == batch.files.len() as u64
 }
 
 fn files_of(batch: &Batch) -> Vec<Vec<u8>> {

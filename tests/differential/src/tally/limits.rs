@@ -6,9 +6,10 @@ use simulator::generate::Batch;
 
 use super::batches::Beyond;
 use super::queues::Walk;
-use super::{answers, batches, logs, operands, queues, reports};
+use super::{answers, batches, logs, operands, pairs, queues, reports};
 use crate::batch::BatchVerdict;
 use crate::call::{Call, Verdict};
+use crate::pair::Pair;
 
 /// The boards of all limits.
 pub struct Limits {
@@ -20,6 +21,7 @@ pub struct Limits {
     logs: Board,
     queues: Board,
     batches: Board,
+    pairs: Board,
 }
 
 impl Default for Limits {
@@ -33,6 +35,7 @@ impl Default for Limits {
             logs: Board::new(&logs::ROWS),
             queues: Board::new(&queues::ROWS),
             batches: Board::new(&batches::ROWS),
+            pairs: Board::new(&pairs::ROWS),
         }
     }
 }
@@ -68,6 +71,16 @@ impl Limits {
         batches::note_told(&mut self.batches, what);
     }
 
+    /// A pair of calls, by its second one.
+    pub fn pair(&mut self, pair: &Pair<Call>, second: &Call, verdict: &Verdict) {
+        pairs::note(&mut self.pairs, pair, second, verdict);
+    }
+
+    /// A pair of calls of several plans.
+    pub fn batch_pair(&mut self, first: &Batch, second: &Batch, verdict: &BatchVerdict) {
+        pairs::note_batch(&mut self.pairs, first, second, verdict);
+    }
+
     fn log(&mut self, verdict: &Verdict) {
         let mut walk = Walk::default();
         let records = verdict.log.chunks_exact(LOG_RECORD_LENGTH);
@@ -82,7 +95,7 @@ impl Limits {
         let mut boards = vec![&self.checks, &self.files];
         if with_runs {
             boards.extend([&self.runs, &self.within, &self.reports]);
-            boards.extend([&self.logs, &self.queues, &self.batches]);
+            boards.extend([&self.logs, &self.queues, &self.batches, &self.pairs]);
         }
         boards
     }

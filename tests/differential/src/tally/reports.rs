@@ -4,6 +4,7 @@ use std::cmp::Ordering;
 
 use simulator::counts::{Board, Row};
 use simulator::format::{REPORT_FATES, REPORT_SUM};
+use simulator::pair::sum_of;
 
 use crate::call::Verdict;
 
@@ -139,14 +140,6 @@ pub fn note_sum(board: &mut Board, lent: &[u8], verdict: &Verdict) {
             board.count(9, 2 * which + usize::from(changed));
         }
     }
-}
-
-/// The sum of all words at even addresses.
-fn sum_of(memory: &[u8]) -> u32 {
-    let low: u32 = memory.iter().step_by(2).map(|&byte| u32::from(byte)).sum();
-    let odd = memory.iter().skip(1).step_by(2);
-    let high: u32 = odd.map(|&byte| u32::from(byte)).sum();
-    low + 256 * high
 }
 
 /// Notes a number that is one of a row's.
