@@ -1,7 +1,7 @@
 /* tampermauve_run on cases 1 to 10 of document 01, on plans with sleepers and starts, on plans with broadcasts, on plans with locks by
- * name and on a step of each op, every byte of every buffer compared; on the sum that each commit moves; and on the refusals of a run.
- * What is expected is worked out by hand from document 01, "Rounds", "Turns", "Log and report" and "Plans to check against", and from
- * requests One to Three, Five and Six of document 02. */
+ * name, on a step of each op and from memories that differ in bytes nobody named, every byte of every buffer compared; on the sum that
+ * each commit moves; and on the refusals of a run. What is expected is worked out by hand from document 01, "Rounds", "Turns", "Log and
+ * report" and "Plans to check against", and from requests One to Three and Five to Seven of document 02. */
 #include <stdio.h>
 #include <stdlib.h>
 #include <string.h>
@@ -100,11 +100,10 @@ static uint32_t sum_afresh(const uint8_t *memory) {
     return sum;
 }
 
-static void expect(const struct expected *e, const struct lent *l, unsigned workers) {
-    uint8_t memory[MEMORY] = {0}, log[LOG] = {0}, report[REPORT] = {0};
+static void expect(const struct expected *e, const struct lent *l, unsigned workers, const uint8_t *memory) {
+    uint8_t log[LOG] = {0}, report[REPORT] = {0};
     static const uint8_t work[WORK] = {0};
     unsigned k;
-    memcpy(memory, e->memory, sizeof e->memory);
     for (k = 0; k < e->records; k++) {
         uint8_t *at = log + TAMPERMAUVE_ENTRY_LENGTH * k;
         plan_word(at + TAMPERMAUVE_ENTRY_MARK, TAMPERMAUVE_LOG_MARK);
@@ -130,21 +129,30 @@ static void expect(const struct expected *e, const struct lent *l, unsigned work
     same(e->name, "work", l->work, work, WORK);
 }
 
-/* The plan by a list of turns, from a starting word at address 0. */
-static void play(const struct expected *e, const struct plan_file *f, unsigned workers, const uint8_t *turns, size_t length,
-                 unsigned start) {
+/* The plan by a list of turns, from one memory to another. */
+static void play_from(const struct expected *e, const struct plan_file *f, unsigned workers, const uint8_t *turns, size_t length,
+                      const uint8_t *before, const uint8_t *after) {
     struct lent l = lend(17u + (unsigned)length);
     uint8_t *file = fresh(f->length, 0), *list = fresh(length + 1u, 0);
-    plan_word(l.memory, start);
+    memcpy(l.memory, before, MEMORY);
     memcpy(file, f->bytes, f->length);
     memcpy(list, turns, length);
     returns(e->name,
             tampermauve_run(file, f->length, list, length, l.memory, MEMORY, l.log, LOG, l.report, REPORT, l.work, WORK), 0);
-    expect(e, &l, workers);
+    expect(e, &l, workers, after);
     same(e->name, "file", file, f->bytes, f->length);
     take_back(&l);
     free(file);
     free(list);
+}
+
+/* The same from a starting word at address 0. */
+static void play(const struct expected *e, const struct plan_file *f, unsigned workers, const uint8_t *turns, size_t length,
+                 unsigned start) {
+    uint8_t before[MEMORY] = {0}, after[MEMORY] = {0};
+    plan_word(before, start);
+    memcpy(after, e->memory, sizeof e->memory);
+    play_from(e, f, workers, turns, length, before, after);
 }
 
 /* Orders of turns: upwards, downwards, each cycle beginning with the next worker, upwards and downwards in turn, and each worker
@@ -166,15 +174,23 @@ static unsigned named(unsigned order, size_t at, unsigned workers) {
     return (unsigned)(at / 3u % workers);
 }
 
-/* Turns that end the plan, in one of the orders. The listing program's are UP, with a third of these cycles. */
-static void play_order(const struct expected *e, const struct plan_file *f, unsigned workers, unsigned steps, unsigned order,
-                       unsigned start) {
-    size_t length = 3u * tampermauve_ending_cycles(steps, workers) * workers, i;
-    uint8_t *turns = fresh(length, 0);
-    for (i = 0; i < length; i++) {
+/* Turns that end the plan, in one of the orders, and how many. The listing program's are UP. */
+static uint8_t *ordered(unsigned workers, unsigned steps, unsigned order, size_t *length) {
+    size_t cycles = (order == THRICE ? 3u : 1u) * tampermauve_ending_cycles(steps, workers), i;
+    uint8_t *turns;
+    *length = cycles * workers;
+    turns = fresh(*length, 0);
+    for (i = 0; i < *length; i++) {
         turns[i] = (uint8_t)named(order, i, workers);
     }
-    play(e, f, workers, turns, order == THRICE ? length : length / 3u, start);
+    return turns;
+}
+
+static void play_order(const struct expected *e, const struct plan_file *f, unsigned workers, unsigned steps, unsigned order,
+                       unsigned start) {
+    size_t length;
+    uint8_t *turns = ordered(workers, steps, order, &length);
+    play(e, f, workers, turns, length, start);
     free(turns);
 }
 
@@ -2096,13 +2112,214 @@ static void point_cases(struct plan_file *f) {
     }
 }
 
-/* A refused run, with buffers of the lengths told: no byte of them is changed. */
-static void refused(const char *name, const struct plan_file *f, const uint8_t *turns, size_t turns_length, const size_t told[4],
-                    uint32_t wanted) {
+/* ---- bytes nobody named */
+
+/* A byte that a load or a store covers: its address, what it holds at first, and what the run leaves there. */
+struct covered {
+    unsigned address, before, after;
+};
+
+enum { KINDS = 4 };
+
+/* A note in every byte: zeros, 255s, and two by which neighbours differ. */
+static void write_notes(uint8_t *memory, unsigned kind) {
+    unsigned at;
+    for (at = 0; at < MEMORY; at++) {
+        memory[at] = (uint8_t)(kind == 0 ? 0 : kind == 1 ? 255 : 7u * at + at / 256u + kind);
+    }
+}
+
+/* From notes of each kind in all bytes that nobody named: what is left differs by the notes alone, each as it was. */
+static void keep_notes(const struct expected *e, const struct plan_file *f, unsigned workers, const uint8_t *turns, size_t length,
+                       const struct covered *bytes, unsigned count) {
+    unsigned kind, k;
+    for (kind = 0; kind < KINDS; kind++) {
+        uint8_t before[MEMORY], after[MEMORY];
+        write_notes(before, kind);
+        write_notes(after, kind);
+        for (k = 0; k < count; k++) {
+            before[bytes[k].address] = (uint8_t)bytes[k].before;
+            after[bytes[k].address] = (uint8_t)bytes[k].after;
+        }
+        play_from(e, f, workers, turns, length, before, after);
+    }
+}
+
+/* The same in every order of turns, to the end. */
+static void keep_in_every_order(const struct expected *e, const struct plan_file *f, unsigned workers, unsigned steps,
+                                const struct covered *bytes, unsigned count) {
+    unsigned order;
+    for (order = 0; order < ORDERS; order++) {
+        size_t length;
+        uint8_t *turns = ordered(workers, steps, order, &length);
+        keep_notes(e, f, workers, turns, length, bytes, count);
+        free(turns);
+    }
+}
+
+/* One word is stored: set, store, arrival, end. The notes beside it stay, over a page border too. */
+static void notes_beside(struct plan_file *f) {
+    static const struct expected stored = {"a note beside a word", {0}, 1, 4, 1, 1, {{1, 0, 38, 0, 255}}, {1}};
+    static const unsigned addresses[] = {0, 3, 254, 255, 256, 511, 1022, 1791, 2045, 2046};
+    size_t k;
+    for (k = 0; k < sizeof addresses / sizeof *addresses; k++) {
+        const struct covered bytes[2] = {{addresses[k], 6, 1}, {addresses[k] + 1u, 6, 2}};
+        plan_begin(f, 1);
+        store_at(f, 0, 0x0201, addresses[k]);
+        keep_in_every_order(&stored, f, 1, 2, bytes, 2);
+    }
+}
+
+/* Whole reports by hand: 0x0201 is stored at 3, between notes in the same two words. 7 + 256 x 1 and 2 + 256 x 9 are 2569, 0x0A09;
+ * with notes that are one greater it is 257 more, as it was at first. */
+static void notes_in_the_sum(struct plan_file *f) {
+    static const uint8_t report[REPORT] = {1, 1, 4, 0, 1, 0, 1, 0, 1, 255, 255, 255, 255, 255, 255, 255, 0x09, 0x0A, 0, 0};
+    unsigned more;
+    plan_begin(f, 1);
+    store_at(f, 0, 0x0201, 3);
+    for (more = 0; more < 3; more++) {
+        struct lent l = lend(60u + more);
+        uint8_t wanted[REPORT], words[6] = {0, 0, (uint8_t)(7u + more), 1, 2, (uint8_t)(9u + more)};
+        memcpy(wanted, report, REPORT);
+        wanted[TAMPERMAUVE_REPORT_SUM] = (uint8_t)(0x09 + more);
+        wanted[TAMPERMAUVE_REPORT_SUM + 1u] = (uint8_t)(0x0A + more);
+        l.memory[2] = words[2];
+        l.memory[5] = words[5];
+        returns("notes in the sum",
+                tampermauve_run(f->bytes, f->length, alone, 4, l.memory, MEMORY, l.log, LOG, l.report, REPORT, l.work, WORK), 0);
+        same("notes in the sum", "memory", l.memory, words, sizeof words);
+        same("notes in the sum", "report", l.report, wanted, REPORT);
+        take_back(&l);
+    }
+}
+
+/* A store that is skipped, one behind an exit, a load behind a failure: they name their bytes, which stay. */
+static void notes_beside_idle_steps(struct plan_file *f) {
+    static const struct expected skipped = {"named by a skipped step", {0}, 1, 3, 1, 1, {{1, 0, 38, 0, 255}}, {1}};
+    static const struct expected exited = {"named behind an exit", {0}, 1, 2, 1, 1, {{1, 0, 38, 0, 255}}, {1}};
+    static const struct expected failed = {"named behind a failure", {0}, 1, 2, 1, 1, {{1, 0, 33, 4, 254}}, {2}};
+    static const struct covered bytes[2] = {{20, 5, 5}, {21, 6, 6}};
+    plan_begin(f, 1);
+    plan_add(f, 0, TAMPERMAUVE_OP_SKIP_ZERO, 0, 1);
+    plan_add(f, 0, TAMPERMAUVE_OP_STORE, 1, 20);
+    keep_in_every_order(&skipped, f, 1, 2, bytes, 2);
+    plan_begin(f, 1);
+    plan_sync(f, 0, TAMPERMAUVE_OP_EXIT, 0);
+    plan_add(f, 0, TAMPERMAUVE_OP_STORE, 1, 20);
+    keep_in_every_order(&exited, f, 1, 2, bytes, 2);
+    plan_begin(f, 1);
+    plan_sync(f, 0, TAMPERMAUVE_OP_UNLOCK, 4);
+    plan_add(f, 0, TAMPERMAUVE_OP_LOAD, 1, 20);
+    keep_in_every_order(&failed, f, 1, 2, bytes, 2);
+}
+
+/* A sleeper whom nobody starts names the bytes at 50 and 51; only worker 0 runs: set, store, arrival, end. */
+static void notes_beside_a_sleeper(struct plan_file *f) {
+    static const struct expected asleep = {"named by a sleeper", {0}, 1, 4, 1, 1, {{1, 0, 38, 0, 255}}, {1, 5}};
+    static const struct covered bytes[4] = {{40, 1, 7}, {41, 1, 0}, {50, 1, 1}, {51, 1, 1}};
+    plan_begin(f, 2);
+    plan_sleep(f, 1);
+    store_at(f, 0, 7, 40);
+    store_at(f, 1, 8, 50);
+    keep_in_every_order(&asleep, f, 2, 4, bytes, 4);
+}
+
+/* Three workers copy one page and commit it one after the other: 0 and 1 a byte each of one word, 2 a word one byte further on. */
+static void race_beside_notes(struct plan_file *f) {
+    plan_begin(f, 3);
+    store_at(f, 0, 0x0100, 300);
+    store_at(f, 1, 1, 300);
+    store_at(f, 2, 0x0909, 303);
+}
+
+static void notes_in_a_race(struct plan_file *f) {
+    static const struct expected raced = {"notes in a race", {0}, 1, 12, 1, 3,
+        {{1, 0, 38, 0, 255}, {1, 1, 38, 0, 255}, {1, 2, 38, 0, 255}}, {1, 1, 1}};
+    static const struct covered bytes[4] = {{300, 0, 1}, {301, 0, 1}, {303, 0, 9}, {304, 0, 9}};
+    race_beside_notes(f);
+    keep_in_every_order(&raced, f, 3, 6, bytes, 4);
+}
+
+/* The same race under way. All have arrived behind the ninth move; the tenth, the exit of 0, commits its one byte. Turns of 2 and 1
+ * pass while 0 holds the token. */
+static void notes_under_way(struct plan_file *f) {
+    static const struct expected arrived = {"notes before a commit", {0}, 0, 9, 0, 0, {{0, 0, 0, 0, 0}}, {0, 0, 0}};
+    static const struct expected one = {"notes behind a commit", {0}, 0, 10, 0, 1, {{1, 0, 38, 0, 255}}, {1, 0, 0}};
+    static const struct covered none[4] = {{300, 0, 0}, {301, 0, 0}, {303, 0, 0}, {304, 0, 0}};
+    static const struct covered high[4] = {{300, 0, 0}, {301, 0, 1}, {303, 0, 0}, {304, 0, 0}};
+    static const uint8_t turns[12] = {0, 0, 1, 1, 2, 2, 0, 1, 2, 2, 1, 0};
+    race_beside_notes(f);
+    keep_notes(&arrived, f, 3, turns, 11, none, 4);
+    keep_notes(&one, f, 3, turns, 12, high, 4);
+}
+
+/* Worker 0 fails at its unlock, and its bytes are lost; worker 1 commits beside them. */
+static void notes_beside_lost_bytes(struct plan_file *f) {
+    static const struct expected lost = {"notes beside lost bytes", {0}, 1, 8, 1, 2, {{1, 0, 33, 0, 254}, {1, 1, 38, 0, 255}}, {2, 1}};
+    static const struct covered bytes[4] = {{600, 1, 1}, {601, 2, 2}, {604, 3, 7}, {605, 4, 0}};
+    plan_begin(f, 2);
+    store_at(f, 0, 0x0505, 600);
+    plan_sync(f, 0, TAMPERMAUVE_OP_UNLOCK, 0);
+    store_at(f, 1, 7, 604);
+    keep_in_every_order(&lost, f, 2, 5, bytes, 4);
+}
+
+/* Worker 0 copies the word at 70 to 80 and waits for ever: load, store, arrival, lock, wait. */
+static void notes_of_a_stuck_plan(struct plan_file *f) {
+    static const struct expected waits = {"notes in a stuck plan", {0}, 2, 5, 1, 2, {{1, 0, 32, 0, 1}, {1, 0, 34, 0, 255}}, {3}};
+    static const struct covered bytes[4] = {{70, 9, 9}, {71, 8, 8}, {80, 1, 9}, {81, 2, 8}};
+    plan_begin(f, 1);
+    copy_word(f, 0, 70, 80);
+    plan_sync(f, 0, TAMPERMAUVE_OP_LOCK, 0);
+    plan_sync(f, 0, TAMPERMAUVE_OP_WAIT, 0);
+    keep_in_every_order(&waits, f, 1, 4, bytes, 4);
+}
+
+/* The byte at 71 is named by the load at 70, and another one there is another run: with 256 in the register two steps are skipped. */
+static void upper_byte_decides(struct plan_file *f) {
+    static const struct expected zero = {"an upper byte of 0", {0}, 1, 6, 1, 1, {{1, 0, 38, 0, 255}}, {1}};
+    static const struct expected one = {"an upper byte of 1", {0}, 1, 4, 1, 1, {{1, 0, 38, 0, 255}}, {1}};
+    static const struct covered with_zero[4] = {{70, 0, 0}, {71, 0, 0}, {100, 3, 5}, {101, 3, 0}};
+    static const struct covered with_one[4] = {{70, 0, 0}, {71, 1, 1}, {100, 3, 3}, {101, 3, 3}};
+    plan_begin(f, 1);
+    plan_add(f, 0, TAMPERMAUVE_OP_LOAD, 0, 70);
+    plan_add(f, 0, TAMPERMAUVE_OP_SKIP_NONZERO, 0, 2);
+    store_at(f, 0, 5, 100);
+    keep_in_every_order(&zero, f, 1, 4, with_zero, 4);
+    keep_in_every_order(&one, f, 1, 4, with_one, 4);
+}
+
+/* No load, no store: set, arrival, lock, unlock, arrival, end, and every byte is a note. */
+static void notes_everywhere(struct plan_file *f) {
+    static const struct expected none = {"no byte is named", {0}, 1, 6, 2, 3,
+        {{1, 0, 32, 0, 1}, {1, 0, 33, 0, 0}, {2, 0, 38, 0, 255}}, {1}};
+    plan_begin(f, 1);
+    plan_fill(f, 0, 1);
+    plan_sync(f, 0, TAMPERMAUVE_OP_LOCK, 0);
+    plan_sync(f, 0, TAMPERMAUVE_OP_UNLOCK, 0);
+    keep_in_every_order(&none, f, 1, 3, NULL, 0);
+}
+
+static void note_cases(struct plan_file *f) {
+    notes_beside(f);
+    notes_in_the_sum(f);
+    notes_beside_idle_steps(f);
+    notes_beside_a_sleeper(f);
+    notes_in_a_race(f);
+    notes_under_way(f);
+    notes_beside_lost_bytes(f);
+    notes_of_a_stuck_plan(f);
+    upper_byte_decides(f);
+    notes_everywhere(f);
+}
+
+/* A refused run from a memory, with buffers of the lengths told: no byte of them is changed. */
+static void refused_from(const char *name, const struct plan_file *f, const uint8_t *turns, size_t turns_length, const size_t told[4],
+                         uint32_t wanted, const uint8_t *memory) {
     struct lent l = lend(90);
     struct lent before = lend(90);
-    memset(l.memory, 3, MEMORY);
-    memset(before.memory, 3, MEMORY);
+    memcpy(l.memory, memory, MEMORY);
+    memcpy(before.memory, memory, MEMORY);
     returns(name,
             tampermauve_run(f->bytes, f->length, turns, turns_length, l.memory, told[0], l.log, told[1], l.report, told[2], l.work,
                             told[3]),
@@ -2113,6 +2330,13 @@ static void refused(const char *name, const struct plan_file *f, const uint8_t *
     same(name, "work", l.work, before.work, WORK);
     take_back(&l);
     take_back(&before);
+}
+
+static void refused(const char *name, const struct plan_file *f, const uint8_t *turns, size_t turns_length, const size_t told[4],
+                    uint32_t wanted) {
+    uint8_t memory[MEMORY];
+    memset(memory, 3, MEMORY);
+    refused_from(name, f, turns, turns_length, told, wanted, memory);
 }
 
 /* 11 comes before 12, 12 before the file's refusals, and these before 13. */
@@ -2174,6 +2398,22 @@ static void sleep_refusals(struct plan_file *f) {
     refused("13 behind a sleeper's turn", f, turns, 2, right, 13);
 }
 
+/* Whatever the notes are, the refusal is the same, and they stay. */
+static void note_refusals(struct plan_file *f) {
+    static const size_t right[4] = {MEMORY, LOG, REPORT, WORK}, wrong[4] = {MEMORY, LOG, REPORT - 4, WORK};
+    static const uint8_t turns[3] = {0, 1, 2};
+    uint8_t memory[MEMORY];
+    unsigned kind;
+    for (kind = 0; kind < KINDS; kind++) {
+        write_notes(memory, kind);
+        race(f);
+        refused_from("11 from any notes", f, turns, 2, wrong, 11, memory);
+        refused_from("13 from any notes", f, turns, 3, right, 13, memory);
+        plan_unmark(f, 5);
+        refused_from("2 from any notes", f, turns, 2, right, 2u + 256u * 5u, memory);
+    }
+}
+
 static int names_a_step(unsigned op) {
     size_t k;
     for (k = 0; k < sizeof points / sizeof *points; k++) {
@@ -2209,9 +2449,11 @@ int main(void) {
     lock_cases(&f);
     sum_cases(&f);
     point_cases(&f);
+    note_cases(&f);
     refusals(&f);
     report_refusals(&f);
     sleep_refusals(&f);
+    note_refusals(&f);
     nameless_refusals(&f);
     printf("run: %u checks, %u failures\n", checks, failures);
     return failures == 0 ? 0 : 1;

@@ -1,6 +1,6 @@
 /* tampermauve_run_all: many plans in one call. Every byte of every buffer is compared, and each call is made twice: once with each
  * buffer alone on the heap, so that valgrind sees an access outside of it, and once with guard bytes around each buffer. What is
- * expected is worked out by hand from document 01 and from requests Four and Five of document 02; only where forty plans are held
+ * expected is worked out by hand from document 01 and from requests Four, Five and Seven of document 02; only where forty plans are held
  * against forty calls of tampermauve_run it is what these leave. */
 #include <stdio.h>
 #include <stdlib.h>
@@ -879,6 +879,48 @@ static void forty(struct plan_file *f) {
     }
 }
 
+/* ---- bytes nobody named */
+
+/* Other notes in all bytes of each plan's memory but the word at 0, the only one that these plans name; so the sum is another one. */
+static void write_notes(unsigned content) {
+    size_t plan, at;
+    for (plan = 0; plan < b.count; plan++) {
+        uint8_t *before = b.before[MEMORIES] + plan * MEMORY, *after = b.after[MEMORIES] + plan * MEMORY;
+        for (at = 2; at < MEMORY; at++) {
+            before[at] = after[at] = (uint8_t)(content * (1u + at % 5u) + plan);
+        }
+    }
+}
+
+static void accept_again(unsigned plan, const struct expected *e) {
+    write_report(e, b.after[MEMORIES] + plan * MEMORY, b.after[REPORTS] + plan * REPORT);
+}
+
+/* Plans that name the word at 0 or nothing, one of them refused, from memories with other notes: the same logs, answers and words. */
+static void notes(struct plan_file *f) {
+    static const struct expected lost = {999, 1, 1, 4, 1, 1, {{1, 0, 33, 0, 254}}, {2}};
+    const struct expected one = added(300);
+    unsigned content;
+    for (content = 0; content < 256; content += 51) {
+        begin();
+        add_one(f);
+        accepted(f, 299, &one);
+        refused(f, spoil(f, 5));
+        waits(f);
+        accepted(f, 999, &stuck);
+        plan_begin(f, 1);
+        plan_add(f, 0, TAMPERMAUVE_OP_SET, 0, 7);
+        plan_add(f, 0, TAMPERMAUVE_OP_STORE, 0, 0);
+        plan_sync(f, 0, TAMPERMAUVE_OP_UNLOCK, 0);
+        accepted(f, 999, &lost);
+        write_notes(content);
+        accept_again(0, &one);
+        accept_again(2, &stuck);
+        accept_again(3, &lost);
+        call("notes that nobody named", 0);
+    }
+}
+
 /* ---- the header's help */
 
 static void put_length(void) {
@@ -903,6 +945,7 @@ static void accepted_calls(struct plan_file *f) {
     lengths_of_files(f);
     empty_files();
     longest_file(f);
+    notes(f);
 }
 
 static void refused_calls(struct plan_file *f) {
