@@ -33,7 +33,7 @@ if [ "$archive" = twin ]; then
 fi
 (cd tests/fuzz/reference && cargo build --release --offline --quiet)
 reference=tests/fuzz/reference/target/release/libreference.a
-sources="tests/fuzz/fuzz.c tests/fuzz/batch.c bench/twin.c"
+sources="tests/fuzz/fuzz.c tests/fuzz/batch.c tests/fuzz/pair.c bench/twin.c"
 libraries="$archive $reference -lpthread -ldl -lm"
 
 # The engine in C is compiled for coverage, which leads the fuzzer; the target
@@ -43,7 +43,8 @@ build_fuzzer() {
     clang $strict $safe -fsanitize=fuzzer-no-link -c bench/twin.c -o "$out/covered.o"
     clang $strict $safe -I "$include" -c tests/fuzz/fuzz.c -o "$out/target.o"
     clang $strict $safe -I "$include" -c tests/fuzz/batch.c -o "$out/batch.o"
-    clang $safe -fsanitize=fuzzer "$out/covered.o" "$out/target.o" "$out/batch.o" \
+    clang $strict $safe -I "$include" -c tests/fuzz/pair.c -o "$out/pair.o"
+    clang $safe -fsanitize=fuzzer "$out/covered.o" "$out/target.o" "$out/batch.o" "$out/pair.o" \
         $libraries -o "$out/fuzz"
 }
 

@@ -35,7 +35,7 @@ struct batch {
     struct buffer buffers[BUFFERS];
 };
 
-static struct batch given, left_by_reference, left_by_engine;
+static struct batch given, left_by_reference, left_by_engine, given_second, left_of_second;
 
 static uint32_t play(run_all_call *run_all, struct batch *c)
 {
@@ -51,6 +51,70 @@ static void copy_batch(struct batch *to, const struct batch *from)
         copy_buffer(&to->buffers[i], &from->buffers[i]);
 }
 
+static uint32_t four_bytes(const uint8_t *from)
+{
+    return from[0] | (uint32_t)from[1] << 8 | (uint32_t)from[2] << 16 | (uint32_t)from[3] << 24;
+}
+
+static uint8_t *part(struct batch *c, int buffer, size_t plan)
+{
+    return start(&c->buffers[buffer]) + plan * UNITS[buffer];
+}
+
+static struct left left_of(struct batch *lent, struct batch *left, size_t plan)
+{
+    struct left run = {part(lent, 0, plan), part(left, 0, plan), part(left, 1, plan), part(left, 2, plan)};
+    return run;
+}
+
+/* Of a call that is refused no file is read, and no byte named. */
+static void change_memories(uint32_t ran)
+{
+    const uint8_t *file = start(&given.buffers[FILES_AT]);
+    struct buffer *memories = &given_second.buffers[0];
+    for (size_t plan = 0; ran == 0 && plan < given.count; plan++) {
+        uint32_t len = four_bytes(part(&given, LENGTHS_AT, plan));
+        change_unnamed(file, len, part(&given_second, 0, plan), UNITS[0]);
+        file += len;
+    }
+    for (size_t at = 0; ran != 0 && at < memories->len; at++)
+        start(memories)[at] ^= 0x5A;
+}
+
+/* A refused plan's own parts are as they were lent to that call. */
+static void hold_plans(const char *engine)
+{
+    const uint8_t *file = start(&given.buffers[FILES_AT]), *answers = part(&left_of_second, 3, 0);
+    same_in_both(engine, "answers", part(&left_by_engine, 3, 0), answers, given.count);
+    if (memchr(answers, 0, given.count) != NULL)
+        same_in_both(engine, "work", part(&left_by_engine, WORK_AT, 0), part(&left_of_second, WORK_AT, 0), TAMPERMAUVE_WORK_LENGTH);
+    for (size_t plan = 0; plan < given.count; plan++) {
+        uint32_t len = four_bytes(part(&given, LENGTHS_AT, plan));
+        struct left one = left_of(&given, &left_by_engine, plan), other = left_of(&given_second, &left_of_second, plan);
+        if (answers[plan] == 0)
+            hold_pair(engine, file, len, &one, &other);
+        for (int i = 0; i < 3 && answers[plan] != 0; i++)
+            same_in_both(engine, NAMES[i], part(&left_of_second, i, plan), part(&given_second, i, plan), UNITS[i]);
+        file += len;
+    }
+}
+
+static void compare_pair(const char *engine, run_all_call *run_all, uint32_t ran)
+{
+    struct buffer *b = given_second.buffers;
+    copy_batch(&given_second, &given);
+    change_memories(ran);
+    for (int i = 1; i <= WORK_AT; i++)
+        memset(start(&b[i]), 0xC1 + i, b[i].len);
+    copy_batch(&left_of_second, &given_second);
+    if (play(run_all, &left_of_second) != ran)
+        parts(engine, "answer of run_all", ran);
+    if (ran == 0)
+        hold_plans(engine);
+    for (int i = 0; i <= WORK_AT && ran != 0; i++)
+        same_in_both(engine, NAMES[i], start(&left_of_second.buffers[i]), start(&b[i]), b[i].len);
+}
+
 static void compare(const char *engine, run_all_call *run_all, uint32_t ran)
 {
     copy_batch(&left_by_engine, &given);
@@ -58,14 +122,10 @@ static void compare(const char *engine, run_all_call *run_all, uint32_t ran)
         differs(engine, "answer of run_all", ran);
     for (int i = 0; i < BUFFERS; i++)
         same_bytes(engine, NAMES[i], &left_by_engine.buffers[i], &left_by_reference.buffers[i]);
+    compare_pair(engine, run_all, ran);
 }
 
 /* --- From an input to a call -------------------------------------------- */
-
-static uint32_t four_bytes(const uint8_t *from)
-{
-    return from[0] | (uint32_t)from[1] << 8 | (uint32_t)from[2] << 16 | (uint32_t)from[3] << 24;
-}
 
 static void put_four_bytes(uint8_t *to, uint32_t number)
 {

@@ -1,7 +1,9 @@
 /* A fuzz target over check and run, and over run_all for inputs whose first
  * byte has the high digit D (see batch.c). The library, and the engine of
  * bench/twin.c as well, are held against the simulator: answers and every
- * byte of every buffer, guard bytes included. A difference ends in abort().
+ * byte of every buffer, guard bytes included; and each call is made again from
+ * a memory that differs in all bytes that no load or store covers, and held
+ * against the first (see pair.c). A difference ends in abort().
  *
  * Another input is: a byte of flags, a byte for the lent buffers, two bytes for
  * the length of the plan's part, the plan's part, the turns' part. Flags:
@@ -48,7 +50,7 @@ struct call {
     struct buffer buffers[BUFFERS];
 };
 
-static struct call given, left_by_reference, left_by_engine;
+static struct call given, left_by_reference, left_by_engine, given_second, left_of_second;
 
 uint8_t *start(struct buffer *b)
 {
@@ -109,6 +111,32 @@ void same_bytes(const char *engine, const char *name, const struct buffer *ours,
         differs(engine, name, first_difference(ours, theirs) - GUARD);
 }
 
+static struct left left_of(struct call *lent, struct call *left)
+{
+    struct left run = {start(&lent->buffers[0]), start(&left->buffers[0]), start(&left->buffers[1]), start(&left->buffers[2])};
+    return run;
+}
+
+/* The engine's call is made again from another memory, and on other old contents. */
+static void compare_pair(const char *engine, run_call *run, uint32_t ran)
+{
+    struct buffer *file = &given.buffers[FILE_AT], *b = given_second.buffers;
+    struct left one = left_of(&given, &left_by_engine), other = left_of(&given_second, &left_of_second);
+    copy_call(&given_second, &given);
+    change_unnamed(start(file), file->len, start(&b[0]), b[0].len);
+    for (unsigned i = 1; i < FILE_AT; i++)
+        memset(start(&b[i]), (int)(0xC1 + i), b[i].len);
+    copy_call(&left_of_second, &given_second);
+    if (play(run, &left_of_second) != ran)
+        parts(engine, "answer of run", ran);
+    if (ran == 0) {
+        hold_pair(engine, start(file), file->len, &one, &other);
+        same_in_both(engine, "work", start(&left_by_engine.buffers[3]), start(&left_of_second.buffers[3]), LENGTHS[3]);
+    }
+    for (unsigned i = 0; i < FILE_AT && ran != 0; i++)
+        same_in_both(engine, NAMES[i], start(&left_of_second.buffers[i]), start(&b[i]), b[i].len);
+}
+
 static void compare(const char *engine, check_call *check, run_call *run,
                     uint32_t checked, uint32_t ran)
 {
@@ -121,6 +149,7 @@ static void compare(const char *engine, check_call *check, run_call *run,
     for (int i = 0; i < BUFFERS; i++)
         same_bytes(engine, NAMES[i], &left_by_engine.buffers[i],
                    &left_by_reference.buffers[i]);
+    compare_pair(engine, run, ran);
 }
 
 /* --- From an input to a call -------------------------------------------- */

@@ -33,6 +33,18 @@ void differs(const char *engine, const char *what, size_t at);
 /* A file from steps of four bytes each. */
 void make_file(struct buffer *file, const uint8_t *from, size_t len);
 
+/* What one of two accepted runs was lent as memory, and what it left. */
+struct left {
+    const uint8_t *lent, *memory, *log, *report;
+};
+
+/* Changes every byte of a memory that no load or store of the file covers. */
+void change_unnamed(const uint8_t *file, size_t file_len, uint8_t *memory, size_t len);
+/* Ends in abort() where two runs part though their memories differ in such bytes alone. */
+void hold_pair(const char *engine, const uint8_t *file, size_t file_len, const struct left *one, const struct left *other);
+void same_in_both(const char *engine, const char *what, const uint8_t *one, const uint8_t *other, size_t len);
+void parts(const char *engine, const char *what, size_t at);
+
 /* A call of several plans from an input of at least four bytes; batch.c says how it is laid out. */
 void try_batch(const uint8_t *data, size_t size);
 
