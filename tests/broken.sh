@@ -54,6 +54,7 @@ c_tests() {
     changed "a refusal that the check test expects" tests/check.c "$expected" 'check: 1 of ' make test-c-check
     changed "a refusal that the run test expects" tests/run.c 's/\("11, no byte", f, turns, 4, told\), 11/\1, 12/' ' 4 failures' make test-c-run
     changed "a byte that the run test expects" tests/run.c 's/{"case 1", {1, 0, 1, 0}/{"case 1", {1, 0, 2, 0}/' ' 10 failures' make test-c-run
+    changed "a byte beside a note that the run test expects" tests/run.c 's/{addresses\[k\] + 1u, 6, 2}/{addresses[k] + 1u, 6, 3}/' ' 400 failures' make test-c-run
     changed "a refusal that the test of many plans expects" tests/run_all.c 's/("41 plans", 15)/("41 plans", 11)/' ' 2 failures' make test-c-run_all
     changed "a byte that the test of many plans expects" tests/run_all.c 's/0x4D, 0x4C, 1, 0, 0, 38, 0, 255/0x4D, 0x4C, 1, 0, 0, 38, 0, 254/' ' 2 failures' make test-c-run_all
     changed "what README.md says that its program prints" README.md 's/^end 0, moving turns 2/end 0, moving turns 3/' '> end 0, moving turns 2' make test-readme
@@ -85,6 +86,19 @@ apart() {
     for input in tests/fuzz/corpus/*; do : >"$input"; done
     fails "a corpus of empty inputs" 'not those of tests/fuzz/corpus.sum: 860' make test-fuzz
     rm -r tests/fuzz/corpus && mv "$work/kept" tests/fuzz/corpus
+}
+
+# Bytes nobody named, and the pairs of calls that differ in them.
+pairs() {
+    local named=simulator/src/named.rs promises=simulator/src/pair.rs calls=tests/differential/src/test/pairs.rs
+    changed "a step that names one byte alone" $named '/cover(address + 1)/d' 'the_upper_byte_of_a_load_decides' \
+        bash -c 'cd simulator && cargo test --release --offline --quiet --test unnamed'
+    changed "the same in pairs of calls" $named '/cover(address + 1)/d' ', a pair by ' make test-twin
+    changed "a pair whose logs are not compared" $promises 's/first_difference(first.log, second.log)/None::<usize>/' 'each_parting_is_seen' make test-simulator
+    changed "a pair whose sums are not compared" $promises '/sums_part(first, second))/d' 'another_sum_is_seen' make test-simulator
+    changed "pairs of calls that are not compared" $calls 's/compare_pair(&self.engine, &pair);/None;/' 'MISSED  unnamed-load' tests/mutants.sh 100 '^unnamed-load'
+    changed "no pairs among the random calls" $calls 's/chance(1, all)/chance(0, all)/' 'never came up: pair: answer' make test-twin
+    changed "a step that names one byte alone, in the fuzz target" tests/fuzz/pair.c '/named\[address + 1\] = 1;/d' 'two calls part' make test-fuzz
 }
 
 # The twin under the library's names, with the fault that a woken worker comes into the next round.
@@ -213,6 +227,7 @@ passes .ci/run >/dev/null || { cat "$work/gate"; echo "broken: the gate fails wi
 c_tests
 listings
 apart
+pairs
 archives
 promises
 conventions
