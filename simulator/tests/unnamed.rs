@@ -286,8 +286,8 @@ fn in_a_plan_that_is_stuck() {
 /// of a byte, whose other byte is covered by the step beside it.
 fn all_but(byte: usize) -> Draft {
     let address = |word: usize| match byte / 2 == word {
-        true if byte % 2 == 0 => byte + 1,
-        true => byte - 2,
+        true if byte % 2 == 1 => byte - 2,
+        true => byte + 1,
         false => 2 * word,
     };
     let own = |worker: usize| {
