@@ -54,7 +54,7 @@ c_tests() {
     changed "a refusal that the check test expects" tests/check.c "$expected" 'check: 1 of ' make test-c-check
     changed "a refusal that the run test expects" tests/run.c 's/\("11, no byte", f, turns, 4, told\), 11/\1, 12/' ' 4 failures' make test-c-run
     changed "a byte that the run test expects" tests/run.c 's/{"case 1", {1, 0, 1, 0}/{"case 1", {1, 0, 2, 0}/' ' 10 failures' make test-c-run
-    changed "a byte beside a note that the run test expects" tests/run.c 's/{addresses\[k\] + 1u, 6, 2}/{addresses[k] + 1u, 6, 3}/' ' 400 failures' make test-c-run
+    changed "a byte beside unnamed ones that the run test expects" tests/run.c 's/{addresses\[k\] + 1u, 6, 2}/{addresses[k] + 1u, 6, 3}/' ' 400 failures' make test-c-run
     changed "a refusal that the test of many plans expects" tests/run_all.c 's/("41 plans", 15)/("41 plans", 11)/' ' 2 failures' make test-c-run_all
     changed "a byte that the test of many plans expects" tests/run_all.c 's/0x4D, 0x4C, 1, 0, 0, 38, 0, 255/0x4D, 0x4C, 1, 0, 0, 38, 0, 254/' ' 2 failures' make test-c-run_all
     changed "what README.md says that its program prints" README.md 's/^end 0, moving turns 2/end 0, moving turns 3/' '> end 0, moving turns 2' make test-readme

@@ -2121,22 +2121,22 @@ struct covered {
 
 enum { KINDS = 4 };
 
-/* A note in every byte: zeros, 255s, and two by which neighbours differ. */
-static void write_notes(uint8_t *memory, unsigned kind) {
+/* Something in every byte: zeros, 255s, and two kinds by which neighbours differ. */
+static void fill_unnamed(uint8_t *memory, unsigned kind) {
     unsigned at;
     for (at = 0; at < MEMORY; at++) {
         memory[at] = (uint8_t)(kind == 0 ? 0 : kind == 1 ? 255 : 7u * at + at / 256u + kind);
     }
 }
 
-/* From notes of each kind in all bytes that nobody named: what is left differs by the notes alone, each as it was. */
-static void keep_notes(const struct expected *e, const struct plan_file *f, unsigned workers, const uint8_t *turns, size_t length,
+/* From each kind of bytes where nobody named any: what is left differs by these alone, each as it was. */
+static void keep_unnamed(const struct expected *e, const struct plan_file *f, unsigned workers, const uint8_t *turns, size_t length,
                        const struct covered *bytes, unsigned count) {
     unsigned kind, k;
     for (kind = 0; kind < KINDS; kind++) {
         uint8_t before[MEMORY], after[MEMORY];
-        write_notes(before, kind);
-        write_notes(after, kind);
+        fill_unnamed(before, kind);
+        fill_unnamed(after, kind);
         for (k = 0; k < count; k++) {
             before[bytes[k].address] = (uint8_t)bytes[k].before;
             after[bytes[k].address] = (uint8_t)bytes[k].after;
@@ -2152,14 +2152,14 @@ static void keep_in_every_order(const struct expected *e, const struct plan_file
     for (order = 0; order < ORDERS; order++) {
         size_t length;
         uint8_t *turns = ordered(workers, steps, order, &length);
-        keep_notes(e, f, workers, turns, length, bytes, count);
+        keep_unnamed(e, f, workers, turns, length, bytes, count);
         free(turns);
     }
 }
 
-/* One word is stored: set, store, arrival, end. The notes beside it stay, over a page border too. */
-static void notes_beside(struct plan_file *f) {
-    static const struct expected stored = {"a note beside a word", {0}, 1, 4, 1, 1, {{1, 0, 38, 0, 255}}, {1}};
+/* One word is stored: set, store, arrival, end. The bytes beside it stay, over a page border too. */
+static void unnamed_beside_a_word(struct plan_file *f) {
+    static const struct expected stored = {"a byte beside a word", {0}, 1, 4, 1, 1, {{1, 0, 38, 0, 255}}, {1}};
     static const unsigned addresses[] = {0, 3, 254, 255, 256, 511, 1022, 1791, 2045, 2046};
     size_t k;
     for (k = 0; k < sizeof addresses / sizeof *addresses; k++) {
@@ -2170,9 +2170,9 @@ static void notes_beside(struct plan_file *f) {
     }
 }
 
-/* Whole reports by hand: 0x0201 is stored at 3, between notes in the same two words. 7 + 256 x 1 and 2 + 256 x 9 are 2569, 0x0A09;
- * with notes that are one greater it is 257 more, as it was at first. */
-static void notes_in_the_sum(struct plan_file *f) {
+/* Whole reports by hand: 0x0201 is stored at 3, between unnamed bytes of the same two words. 7 + 256 x 1 and 2 + 256 x 9 are 2569, 0x0A09;
+ * with bytes that are one greater it is 257 more, as it was at first. */
+static void unnamed_in_the_sum(struct plan_file *f) {
     static const uint8_t report[REPORT] = {1, 1, 4, 0, 1, 0, 1, 0, 1, 255, 255, 255, 255, 255, 255, 255, 0x09, 0x0A, 0, 0};
     unsigned more;
     plan_begin(f, 1);
@@ -2185,16 +2185,16 @@ static void notes_in_the_sum(struct plan_file *f) {
         wanted[TAMPERMAUVE_REPORT_SUM + 1u] = (uint8_t)(0x0A + more);
         l.memory[2] = words[2];
         l.memory[5] = words[5];
-        returns("notes in the sum",
+        returns("unnamed bytes in the sum",
                 tampermauve_run(f->bytes, f->length, alone, 4, l.memory, MEMORY, l.log, LOG, l.report, REPORT, l.work, WORK), 0);
-        same("notes in the sum", "memory", l.memory, words, sizeof words);
-        same("notes in the sum", "report", l.report, wanted, REPORT);
+        same("unnamed bytes in the sum", "memory", l.memory, words, sizeof words);
+        same("unnamed bytes in the sum", "report", l.report, wanted, REPORT);
         take_back(&l);
     }
 }
 
 /* A store that is skipped, one behind an exit, a load behind a failure: they name their bytes, which stay. */
-static void notes_beside_idle_steps(struct plan_file *f) {
+static void unnamed_beside_idle_steps(struct plan_file *f) {
     static const struct expected skipped = {"named by a skipped step", {0}, 1, 3, 1, 1, {{1, 0, 38, 0, 255}}, {1}};
     static const struct expected exited = {"named behind an exit", {0}, 1, 2, 1, 1, {{1, 0, 38, 0, 255}}, {1}};
     static const struct expected failed = {"named behind a failure", {0}, 1, 2, 1, 1, {{1, 0, 33, 4, 254}}, {2}};
@@ -2214,7 +2214,7 @@ static void notes_beside_idle_steps(struct plan_file *f) {
 }
 
 /* A sleeper whom nobody starts names the bytes at 50 and 51; only worker 0 runs: set, store, arrival, end. */
-static void notes_beside_a_sleeper(struct plan_file *f) {
+static void unnamed_beside_a_sleeper(struct plan_file *f) {
     static const struct expected asleep = {"named by a sleeper", {0}, 1, 4, 1, 1, {{1, 0, 38, 0, 255}}, {1, 5}};
     static const struct covered bytes[4] = {{40, 1, 7}, {41, 1, 0}, {50, 1, 1}, {51, 1, 1}};
     plan_begin(f, 2);
@@ -2225,37 +2225,37 @@ static void notes_beside_a_sleeper(struct plan_file *f) {
 }
 
 /* Three workers copy one page and commit it one after the other: 0 and 1 a byte each of one word, 2 a word one byte further on. */
-static void race_beside_notes(struct plan_file *f) {
+static void race_in_one_page(struct plan_file *f) {
     plan_begin(f, 3);
     store_at(f, 0, 0x0100, 300);
     store_at(f, 1, 1, 300);
     store_at(f, 2, 0x0909, 303);
 }
 
-static void notes_in_a_race(struct plan_file *f) {
-    static const struct expected raced = {"notes in a race", {0}, 1, 12, 1, 3,
+static void unnamed_in_a_race(struct plan_file *f) {
+    static const struct expected raced = {"unnamed bytes in a race", {0}, 1, 12, 1, 3,
         {{1, 0, 38, 0, 255}, {1, 1, 38, 0, 255}, {1, 2, 38, 0, 255}}, {1, 1, 1}};
     static const struct covered bytes[4] = {{300, 0, 1}, {301, 0, 1}, {303, 0, 9}, {304, 0, 9}};
-    race_beside_notes(f);
+    race_in_one_page(f);
     keep_in_every_order(&raced, f, 3, 6, bytes, 4);
 }
 
 /* The same race under way. All have arrived behind the ninth move; the tenth, the exit of 0, commits its one byte. Turns of 2 and 1
  * pass while 0 holds the token. */
-static void notes_under_way(struct plan_file *f) {
-    static const struct expected arrived = {"notes before a commit", {0}, 0, 9, 0, 0, {{0, 0, 0, 0, 0}}, {0, 0, 0}};
-    static const struct expected one = {"notes behind a commit", {0}, 0, 10, 0, 1, {{1, 0, 38, 0, 255}}, {1, 0, 0}};
+static void unnamed_under_way(struct plan_file *f) {
+    static const struct expected arrived = {"unnamed bytes before a commit", {0}, 0, 9, 0, 0, {{0, 0, 0, 0, 0}}, {0, 0, 0}};
+    static const struct expected one = {"unnamed bytes behind a commit", {0}, 0, 10, 0, 1, {{1, 0, 38, 0, 255}}, {1, 0, 0}};
     static const struct covered none[4] = {{300, 0, 0}, {301, 0, 0}, {303, 0, 0}, {304, 0, 0}};
     static const struct covered high[4] = {{300, 0, 0}, {301, 0, 1}, {303, 0, 0}, {304, 0, 0}};
     static const uint8_t turns[12] = {0, 0, 1, 1, 2, 2, 0, 1, 2, 2, 1, 0};
-    race_beside_notes(f);
-    keep_notes(&arrived, f, 3, turns, 11, none, 4);
-    keep_notes(&one, f, 3, turns, 12, high, 4);
+    race_in_one_page(f);
+    keep_unnamed(&arrived, f, 3, turns, 11, none, 4);
+    keep_unnamed(&one, f, 3, turns, 12, high, 4);
 }
 
 /* Worker 0 fails at its unlock, and its bytes are lost; worker 1 commits beside them. */
-static void notes_beside_lost_bytes(struct plan_file *f) {
-    static const struct expected lost = {"notes beside lost bytes", {0}, 1, 8, 1, 2, {{1, 0, 33, 0, 254}, {1, 1, 38, 0, 255}}, {2, 1}};
+static void unnamed_beside_lost_bytes(struct plan_file *f) {
+    static const struct expected lost = {"bytes beside lost ones", {0}, 1, 8, 1, 2, {{1, 0, 33, 0, 254}, {1, 1, 38, 0, 255}}, {2, 1}};
     static const struct covered bytes[4] = {{600, 1, 1}, {601, 2, 2}, {604, 3, 7}, {605, 4, 0}};
     plan_begin(f, 2);
     store_at(f, 0, 0x0505, 600);
@@ -2265,8 +2265,8 @@ static void notes_beside_lost_bytes(struct plan_file *f) {
 }
 
 /* Worker 0 copies the word at 70 to 80 and waits for ever: load, store, arrival, lock, wait. */
-static void notes_of_a_stuck_plan(struct plan_file *f) {
-    static const struct expected waits = {"notes in a stuck plan", {0}, 2, 5, 1, 2, {{1, 0, 32, 0, 1}, {1, 0, 34, 0, 255}}, {3}};
+static void unnamed_in_a_stuck_plan(struct plan_file *f) {
+    static const struct expected waits = {"unnamed bytes in a stuck plan", {0}, 2, 5, 1, 2, {{1, 0, 32, 0, 1}, {1, 0, 34, 0, 255}}, {3}};
     static const struct covered bytes[4] = {{70, 9, 9}, {71, 8, 8}, {80, 1, 9}, {81, 2, 8}};
     plan_begin(f, 1);
     copy_word(f, 0, 70, 80);
@@ -2289,8 +2289,8 @@ static void upper_byte_decides(struct plan_file *f) {
     keep_in_every_order(&one, f, 1, 4, with_one, 4);
 }
 
-/* No load, no store: set, arrival, lock, unlock, arrival, end, and every byte is a note. */
-static void notes_everywhere(struct plan_file *f) {
+/* No load, no store: set, arrival, lock, unlock, arrival, end, and every byte stays. */
+static void no_byte_named(struct plan_file *f) {
     static const struct expected none = {"no byte is named", {0}, 1, 6, 2, 3,
         {{1, 0, 32, 0, 1}, {1, 0, 33, 0, 0}, {2, 0, 38, 0, 255}}, {1}};
     plan_begin(f, 1);
@@ -2300,17 +2300,17 @@ static void notes_everywhere(struct plan_file *f) {
     keep_in_every_order(&none, f, 1, 3, NULL, 0);
 }
 
-static void note_cases(struct plan_file *f) {
-    notes_beside(f);
-    notes_in_the_sum(f);
-    notes_beside_idle_steps(f);
-    notes_beside_a_sleeper(f);
-    notes_in_a_race(f);
-    notes_under_way(f);
-    notes_beside_lost_bytes(f);
-    notes_of_a_stuck_plan(f);
+static void unnamed_cases(struct plan_file *f) {
+    unnamed_beside_a_word(f);
+    unnamed_in_the_sum(f);
+    unnamed_beside_idle_steps(f);
+    unnamed_beside_a_sleeper(f);
+    unnamed_in_a_race(f);
+    unnamed_under_way(f);
+    unnamed_beside_lost_bytes(f);
+    unnamed_in_a_stuck_plan(f);
     upper_byte_decides(f);
-    notes_everywhere(f);
+    no_byte_named(f);
 }
 
 /* A refused run from a memory, with buffers of the lengths told: no byte of them is changed. */
@@ -2398,19 +2398,19 @@ static void sleep_refusals(struct plan_file *f) {
     refused("13 behind a sleeper's turn", f, turns, 2, right, 13);
 }
 
-/* Whatever the notes are, the refusal is the same, and they stay. */
-static void note_refusals(struct plan_file *f) {
+/* Whatever unnamed bytes hold, the refusal is the same, and they stay. */
+static void unnamed_refusals(struct plan_file *f) {
     static const size_t right[4] = {MEMORY, LOG, REPORT, WORK}, wrong[4] = {MEMORY, LOG, REPORT - 4, WORK};
     static const uint8_t turns[3] = {0, 1, 2};
     uint8_t memory[MEMORY];
     unsigned kind;
     for (kind = 0; kind < KINDS; kind++) {
-        write_notes(memory, kind);
+        fill_unnamed(memory, kind);
         race(f);
-        refused_from("11 from any notes", f, turns, 2, wrong, 11, memory);
-        refused_from("13 from any notes", f, turns, 3, right, 13, memory);
+        refused_from("11 from any memory", f, turns, 2, wrong, 11, memory);
+        refused_from("13 from any memory", f, turns, 3, right, 13, memory);
         plan_unmark(f, 5);
-        refused_from("2 from any notes", f, turns, 2, right, 2u + 256u * 5u, memory);
+        refused_from("2 from any memory", f, turns, 2, right, 2u + 256u * 5u, memory);
     }
 }
 
@@ -2449,11 +2449,11 @@ int main(void) {
     lock_cases(&f);
     sum_cases(&f);
     point_cases(&f);
-    note_cases(&f);
+    unnamed_cases(&f);
     refusals(&f);
     report_refusals(&f);
     sleep_refusals(&f);
-    note_refusals(&f);
+    unnamed_refusals(&f);
     nameless_refusals(&f);
     printf("run: %u checks, %u failures\n", checks, failures);
     return failures == 0 ? 0 : 1;

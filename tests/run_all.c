@@ -881,8 +881,8 @@ static void forty(struct plan_file *f) {
 
 /* ---- bytes nobody named */
 
-/* Other notes in all bytes of each plan's memory but the word at 0, the only one that these plans name; so the sum is another one. */
-static void write_notes(unsigned content) {
+/* Other bytes in each plan's memory but for the word at 0, the only one that these plans name; so the sum is another one. */
+static void fill_unnamed(unsigned content) {
     size_t plan, at;
     for (plan = 0; plan < b.count; plan++) {
         uint8_t *before = b.before[MEMORIES] + plan * MEMORY, *after = b.after[MEMORIES] + plan * MEMORY;
@@ -896,8 +896,8 @@ static void accept_again(unsigned plan, const struct expected *e) {
     write_report(e, b.after[MEMORIES] + plan * MEMORY, b.after[REPORTS] + plan * REPORT);
 }
 
-/* Plans that name the word at 0 or nothing, one of them refused, from memories with other notes: the same logs, answers and words. */
-static void notes(struct plan_file *f) {
+/* Plans that name the word at 0 or nothing, one of them refused, from memories that differ elsewhere: the same logs, answers and words. */
+static void unnamed_bytes(struct plan_file *f) {
     static const struct expected lost = {999, 1, 1, 4, 1, 1, {{1, 0, 33, 0, 254}}, {2}};
     const struct expected one = added(300);
     unsigned content;
@@ -913,11 +913,11 @@ static void notes(struct plan_file *f) {
         plan_add(f, 0, TAMPERMAUVE_OP_STORE, 0, 0);
         plan_sync(f, 0, TAMPERMAUVE_OP_UNLOCK, 0);
         accepted(f, 999, &lost);
-        write_notes(content);
+        fill_unnamed(content);
         accept_again(0, &one);
         accept_again(2, &stuck);
         accept_again(3, &lost);
-        call("notes that nobody named", 0);
+        call("bytes nobody named", 0);
     }
 }
 
@@ -945,7 +945,7 @@ static void accepted_calls(struct plan_file *f) {
     lengths_of_files(f);
     empty_files();
     longest_file(f);
-    notes(f);
+    unnamed_bytes(f);
 }
 
 static void refused_calls(struct plan_file *f) {

@@ -274,8 +274,8 @@ impl Stored {
     fn new() -> Self {
         let file = Draft::from_rows(&[], &[&[(16, 0, 0x0201), (18, 0, 10)]]).file();
         let plan = check(&file).expect("an accepted plan");
-        let lent = [0, 9].map(|note| {
-            let mut lent = vec![note; MEMORY_LENGTH];
+        let lent = [0, 9].map(|byte| {
+            let mut lent = vec![byte; MEMORY_LENGTH];
             lent[10..12].fill(4);
             lent
         });

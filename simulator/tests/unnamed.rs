@@ -1,5 +1,5 @@
 //! Bytes that no load or store covers, with values worked out by hand from the
-//! paper's seventh request. Such a byte holds a note, and keeps it.
+//! paper's seventh request. Such a byte keeps what it holds.
 
 mod common;
 
@@ -20,14 +20,14 @@ fn draft(rows: &[Row]) -> Draft {
 }
 
 /// A byte everywhere: zeros, 255s, or one that differs from its neighbours.
-fn notes(kind: usize) -> Vec<Cell> {
-    let note = |address: usize| match kind {
+fn others(kind: usize) -> Vec<Cell> {
+    let byte = |address: usize| match kind {
         0 => 0,
         1 => 255,
         _ => (7 * address + address / 256 + 1) as u8,
     };
     (0..MEMORY_LENGTH)
-        .map(|address| (address, note(address)))
+        .map(|address| (address, byte(address)))
         .collect()
 }
 
@@ -57,14 +57,14 @@ fn named(file: &[u8]) -> Vec<usize> {
 }
 
 /// The plan names just the bytes of `start`. From memories that have these and
-/// notes of each kind elsewhere both runs leave this log and the front of this
-/// report, `left` in the named bytes that change, and each note.
+/// others of each kind elsewhere both runs leave this log and the front of this
+/// report, `left` in the named bytes that change, and each other byte as it was.
 fn keeps(draft: &Draft, start: &[Cell], left: &[Cell], log: &[Entry], bytes: [u8; 16]) {
     let addresses: Vec<usize> = start.iter().map(|cell| cell.0).collect();
     assert_eq!(named(&draft.file()), addresses);
     assert!(left.iter().all(|cell| addresses.contains(&cell.0)));
     for kind in KINDS {
-        let lent = [&notes(kind)[..], start].concat();
+        let lent = [&others(kind)[..], start].concat();
         let outcome = end_of(draft, &lent);
         assert_eq!(outcome.memory, memory_of(&[&lent[..], left].concat()));
         assert_eq!(outcome.log, log_of(log));
@@ -84,7 +84,7 @@ fn a_file_and_all_that_it_leaves() {
     let plan = draft(&[&[(16, 0, 0x0201), (18, 0, 3)]]);
     assert_eq!(plan.file(), file);
     assert_eq!(named(&file), [3, 4]);
-    // Notes right below the word and right above it, in the same two words.
+    // Bytes right below the word and right above it, in the same two words.
     let first = end_of(&plan, &[(2, 7), (5, 9)]);
     let second = end_of(&plan, &[(2, 8), (5, 10)]);
     assert_eq!(first.memory[..7], [0, 0, 7, 1, 2, 9, 0]);
@@ -228,7 +228,7 @@ fn under_way() {
     ];
     for (length, moves, left) in behind {
         for kind in KINDS {
-            let lent = [&notes(kind)[..], &RACED].concat();
+            let lent = [&others(kind)[..], &RACED].concat();
             let outcome = run_call(&races(), &turns[..length], &lent);
             assert_eq!(outcome.memory, memory_of(&[&lent[..], left].concat()));
             let records = usize::from(moves.saturating_sub(9));
@@ -309,8 +309,8 @@ fn every_byte_and_every_byte_but_one() {
         assert_eq!(check_code(&plan.file()), 0);
         assert_eq!(Named::by(&plan.file()).unnamed(), [byte]);
         for kind in KINDS {
-            let outcome = end_of(&plan, &notes(kind));
-            assert_eq!(outcome.memory[byte], notes(kind)[byte].1);
+            let outcome = end_of(&plan, &others(kind));
+            assert_eq!(outcome.memory[byte], others(kind)[byte].1);
         }
     }
     let every = all_but(MEMORY_LENGTH);
@@ -337,7 +337,7 @@ fn refused_alike() {
     ];
     for (file, turns, length, wanted) in cases {
         for kind in KINDS {
-            let lent = memory_of(&notes(kind));
+            let lent = memory_of(&others(kind));
             let mut memory = lent.clone();
             let mut log = vec![kind as u8 + 1; LOG_LENGTH];
             let mut report = vec![kind as u8 + 2; length];
@@ -352,7 +352,7 @@ fn refused_alike() {
     }
 }
 
-/// Three plans in one call, the middle one refused: each keeps its own notes.
+/// Three plans in one call, the middle one refused: each keeps its own bytes.
 #[test]
 fn many_plans_in_one_call() {
     let stores: Row = &[(16, 0, 0x0201), (18, 0, 2_046)];
@@ -360,8 +360,8 @@ fn many_plans_in_one_call() {
     let files = [races().file(), bad, draft(&[stores]).file()];
     for kind in KINDS {
         let mut call = Batch::of(&mut Rng::new(7), &files);
-        let raced = [&notes(kind)[..], &RACED].concat();
-        let lent = [raced, notes(kind), notes(2 - kind)];
+        let raced = [&others(kind)[..], &RACED].concat();
+        let lent = [raced, others(kind), others(2 - kind)];
         call.lent[0] = lent.iter().flat_map(|cells| memory_of(cells)).collect();
         assert_eq!(call.run(), 0);
         assert_eq!(call.lent[3], [0, 7, 0]);
