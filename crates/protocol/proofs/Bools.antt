@@ -29,6 +29,9 @@ pub or-holds : (a : Bool) {b : Bool} → b ≡ true → a || b ≡ true
 or-holds true e = refl
 or-holds false e = e
 
+pub or-true : (a : Bool) → a || true ≡ true
+or-true a = or-holds a refl
+
 pub or-fails : (a : Bool) {b : Bool} → b ≡ false → a || b ≡ a
 or-fails true e = refl
 or-fails false e = e

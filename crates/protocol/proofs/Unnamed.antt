@@ -8,7 +8,6 @@ use mathlib.Core.Bool.{Bool, true, false, _||_, true≢false}
 use mathlib.Core.Path.{_≡_, refl, sym, ap, _∙_}
 use mathlib.Core.List.{List, [], _∷_}
 use borrow.Author.Tests.{eq-eqb}
-use lib.Dec.{eqb}
 use lib.ListN.{length, getD, List·getD-eq-default}
 use Rattle.protocol.specs.Format.{Own, assign, load, store, add, subtract, skipZero, skipNonzero, exit, Step, sync, Plan, countFrom}
 use Rattle.protocol.specs.Refusals.{anyOf}
@@ -20,7 +19,7 @@ use Rattle.protocol.specs.Report.{endOf, fateByte, reportBytes, butForSu
 use Rattle.protocol.specs.Calls.{playedFrom}
 use Rattle.protocol.specs.Named.{wordCovers, ownCovers, covers, named, SameNamed}
 use Rattle.protocol.specs.Demands.{UnnamedKept, SameButUnnamed}
-use Rattle.protocol.proofs.Bools.{split, or-holds}
+use Rattle.protocol.proofs.Bools.{split, or-holds, or-true}
 use Rattle.protocol.proofs.Paired.{PairedWorker, new-paired, paired-kept}
 use Rattle.protocol.proofs.OtherBytes.{byteBy, bytesBy, copiesBy, byte-unnamed, named-from, load-alike, store-alike, commit-alike}
 use Rattle.protocol.proofs.Placed.{eachFrom, each-inside, each-is}
@@ -49,7 +48,7 @@ this-covered : (a : ℕ) → wordCovers a a ≡ true
 this-covered a = rw (eq-eqb a a refl)
 
 next-covered : (a : ℕ) → wordCovers a (a + 1) ≡ true
-next-covered a = rw (eq-eqb (a + 1) (a + 1) refl) (or-holds (eqb (a + 1) a) refl)
+next-covered a = rw (eq-eqb (a + 1) (a + 1) refl, or-true)
 
 module _ (plan : Plan) (other : List ℕ) where
   -- ---- own steps
