@@ -45,7 +45,7 @@ try() { # LIST BY
     while read -r name; do
         all=$((all + 1))
         compile "$work/$name.c" "$work/$name.so" || exit 2
-        timeout 120 "$program" --engine "$work/$name.so" --count "$count" --by "$2" \
+        timeout 300 "$program" --engine "$work/$name.so" --count "$count" --by "$2" \
             > "$work/said" 2>&1
         status=$?
         # A difference is status 1 and says so. Neither a time-out nor a signal is
