@@ -1,11 +1,15 @@
 /* Feeds kept inputs to the fuzz target, without a fuzzer. Ends by abort() at
  * the first difference; prints how many inputs there were. An input that is
- * too short to make a call is an error: it tests nothing. */
+ * too short to make a call is an error: it tests nothing. A target whose inputs
+ * are shorter, or no calls, is compiled with other words. */
 #include <stdint.h>
 #include <stdio.h>
 #include <stdlib.h>
 
-enum { LEAST_INPUT = 4 };
+#ifndef LEAST_INPUT
+#define LEAST_INPUT 4
+#define REPLAYED "inputs"
+#endif
 
 int LLVMFuzzerTestOneInput(const uint8_t *data, size_t size);
 
@@ -33,6 +37,6 @@ int main(int argc, char **argv)
     for (int i = 1; i < argc; i++)
         if (replay(argv[i]))
             return 1;
-    printf("%d inputs replayed\n", argc - 1);
+    printf("%d %s replayed\n", argc - 1, REPLAYED);
     return argc > 1 ? 0 : 1;
 }
