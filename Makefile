@@ -1,7 +1,9 @@
-# make         the library, the header check, the C test programs
+# make         the library, the command, the header check, the C test programs
 # make test    the gate, .ci/run: all proofs from nothing, then every test
 # make tests   every test, on what is proved already; test-NAME is one of them (TESTS below)
 # make soak, make mutants, make fuzz, make bench, make bench-placed, make bench-instructions, make controls, make broken  what takes longer; see the end of this file
+# make install, make uninstall   the library, the command and their pages; see install.mk
+# make test-page   pages of plans in a browser, beside the gate
 # make clean   removes all that is built
 #
 # What is proved and the C tests stand under target/, which `rt ci` removes too; the measuring program under build/, and what cargo
@@ -27,14 +29,15 @@ RT_PROGRAMS = listing vectors
 
 PROVED = $(shell find crates -name '*.rt' -o -name '*.antt') crates.txt
 
-# No recipe calls make; cargo would look for make's job server, and warn that it is not handed one.
+# make's flags are handed on to nobody: cargo would look for make's job server, and warn that it is not handed one, and tests/install.sh
+# calls make with what it needs.
 unexport MAKEFLAGS MFLAGS
 
 # The tests of the gate. What each must print there is in .ci/said.
-TESTS = test-promises test-conventions test-c test-listings test-simulator test-differential test-twin test-hold test-hosts test-fuzz test-vectors
+TESTS = test-promises test-conventions test-c test-listings test-simulator test-differential test-twin test-hold test-text test-command test-install test-fuzz test-vectors
 
 .PHONY: all
-all: lib header programs
+all: lib command header programs
 
 .PHONY: lib
 lib: $(LIB)
@@ -61,6 +64,22 @@ clean:
 $(LIB): $(PROVED) toolchain.txt
 	.ci/toolchain
 	rt staticlib tampermauve
+
+# ---- the command, plainly and with sanitizers
+
+COMMAND = target/bin/tampermauve
+COMMAND_SOURCES = $(wildcard command/*.c)
+COMMAND_NEEDS = $(COMMAND_SOURCES) $(wildcard command/*.h) $(HEADER) $(LIB)
+
+.PHONY: command
+command: $(COMMAND)
+
+$(COMMAND): $(COMMAND_NEEDS)
+	mkdir -p $(dir $@)
+	$(CC) $(CFLAGS) -Iinclude -Icommand $(COMMAND_SOURCES) $(LIB) -o $@
+
+$(OUT)/tampermauve.sanitized: $(COMMAND_NEEDS) | $(OUT)
+	$(CC) $(CFLAGS) $(SANITIZE) -Iinclude -Icommand $(COMMAND_SOURCES) $(LIB) -o $@
 
 # ---- Rattle programs
 
@@ -112,22 +131,34 @@ $(OUT)/stack: tests/stack.c $(wildcard tests/*.h) $(HEADER) $(LIB) | $(OUT)
 test-stack: $(OUT)/stack
 	$(OUT)/stack
 
-# ---- the program in README.md, as it is printed there, and what README.md says that it prints
+# ---- the program and the plan in README.md, as they are printed there, and what README.md says that they print
+
+# the first block of a text that is marked with a word
+block = awk '/^```$(1)$$/ { on = 1; next } /^```$$/ { if (on) exit } on'
 
 $(OUT)/readme.c: README.md | $(OUT)
-	awk '/^```c$$/ { on = 1; next } /^```$$/ { if (on) exit } on' $< > $@
+	$(call block,c) $< > $@
 
 $(OUT)/readme.expected: README.md | $(OUT)
-	awk '/^```text$$/ { on = 1; next } /^```$$/ { if (on) exit } on' $< > $@
+	$(call block,text) $< > $@
+
+$(OUT)/readme.steps: README.md | $(OUT)
+	$(call block,steps) $< > $@
+
+$(OUT)/readme.run: README.md | $(OUT)
+	$(call block,run) $< > $@
 
 $(OUT)/readme: $(OUT)/readme.c $(HEADER) $(LIB)
 	$(CC) $(CFLAGS) -Iinclude $< $(LIB) -o $@
 
 .PHONY: test-readme
-test-readme: $(OUT)/readme $(OUT)/readme.expected
+test-readme: $(OUT)/readme $(OUT)/readme.expected $(OUT)/readme.steps $(OUT)/readme.run $(COMMAND)
 	$(OUT)/readme > $(OUT)/readme.printed
 	diff $(OUT)/readme.expected $(OUT)/readme.printed
-	@echo "readme: prints what README.md says"
+	$(COMMAND) assemble $(OUT)/readme.steps -o $(OUT)/readme.plan
+	$(COMMAND) run $(OUT)/readme.plan | diff $(OUT)/readme.run -
+	$(COMMAND) run $(OUT)/readme.plan --seed 5 | diff $(OUT)/readme.run -
+	@echo "readme: its program and its plan print what README.md says"
 
 # ---- what docs/PROMISES.md names, and the listings of the plans in plans/
 
@@ -140,8 +171,8 @@ test-conventions:
 	tests/conventions.sh
 
 .PHONY: test-listings
-test-listings: target/bin/listing
-	tests/listings.sh $<
+test-listings: target/bin/listing $(COMMAND)
+	tests/listings.sh $^
 
 # ---- the simulator, and what is held against it: Rust with its standard library alone
 
@@ -163,15 +194,49 @@ test-differential: $(LIB)
 test-twin:
 	tests/differential.sh twin --seed $(SEED) --count $(TWIN_COUNT)
 
-# the listing program beside the simulator's, on random plans
+# the listing program and the command's listing beside the simulator's, on random plans
 .PHONY: test-hold
-test-hold: target/bin/listing
+test-hold: target/bin/listing $(OUT)/list
 	cd simulator && cargo build --release --offline --quiet
 	simulator/target/release/hold target/bin/listing --count 1000
+	simulator/target/release/hold $(OUT)/list --count 1000
 
-.PHONY: test-hosts
-test-hosts: $(LIB)
-	tests/hosts.sh
+# the command as a listing program, for which a refused plan is no failure
+$(OUT)/list: $(COMMAND) | $(OUT)
+	printf '#!/bin/sh\n$(COMMAND) list - 2>/dev/null\n[ $$? -lt 2 ]\n' > $@
+	chmod +x $@
+
+# ---- plans as text: the command's parts for both directions, on every statement and error, on stored, random and damaged plans
+
+TEXT_SOURCES = $(addprefix command/,assemble.c disassemble.c parse.c scan.c names.c records.c refusals.c bytes.c)
+TEXT_NEEDS = tests/text.c $(TEXT_SOURCES) $(wildcard tests/*.h command/*.h) $(HEADER) $(LIB)
+TEXT_PLANS = $(wildcard plans/*.plan) crates/vectors/data/plans.data
+
+$(OUT)/text: $(TEXT_NEEDS) | $(OUT)
+	$(CC) $(CFLAGS) -Iinclude -Itests -Icommand tests/text.c $(TEXT_SOURCES) $(LIB) -o $@
+
+$(OUT)/text.sanitized: $(TEXT_NEEDS) | $(OUT)
+	$(CC) $(CFLAGS) $(SANITIZE) -Iinclude -Itests -Icommand tests/text.c $(TEXT_SOURCES) $(LIB) -o $@
+
+.PHONY: test-text
+test-text: $(OUT)/text $(OUT)/text.sanitized
+	$(OUT)/text 1000 $(TEXT_PLANS)
+	$(OUT)/text.sanitized 1000 $(TEXT_PLANS)
+	@if command -v valgrind >/dev/null 2>&1; then \
+	    echo $(VALGRIND) $(OUT)/text 50; $(VALGRIND) $(OUT)/text 50 $(TEXT_PLANS); \
+	else \
+	    echo "valgrind is not installed: text is not run under it"; \
+	fi
+
+# ---- the command: its words and files, and its pages in a browser
+
+.PHONY: test-command
+test-command: $(COMMAND) $(OUT)/tampermauve.sanitized target/bin/listing
+	tests/command.sh $(COMMAND) $(OUT)/tampermauve.sanitized
+
+.PHONY: test-page
+test-page: $(COMMAND)
+	tests/page.sh $<
 
 .PHONY: test-fuzz
 test-fuzz: $(LIB)
@@ -207,6 +272,7 @@ broken: all
 .PHONY: fuzz
 fuzz: $(LIB)
 	tests/fuzz.sh run $(SECONDS)
+	tests/fuzz.sh run $(SECONDS) texts
 
 # the library beside the C twin, in one run
 build/bench: $(wildcard bench/*.c bench/*.h) $(LIB)
@@ -227,3 +293,7 @@ bench-instructions: build/bench
 bench-placed: $(LIB)
 	mkdir -p build
 	bench/placed.sh $(LIB) 25 build/placed.csv build/placed.svg
+
+# ---- make install, make uninstall and test-install
+
+include install.mk

@@ -55,8 +55,8 @@ static void write_summary(const struct trace *trace, struct bytes *page)
     size_t rounds = tampermauve_word(trace->left.report, TAMPERMAUVE_REPORT_ROUNDS);
     bytes_print(page, "<p class='summary'>The plan of ");
     count_words(page, trace->workers, "worker", "workers");
-    bytes_print(page, " is <strong>%s</strong>%s", end_word(trace_end(trace)),
-                trace_end(trace) == TAMPERMAUVE_END_GOING ? " where its list of turns ends" : "");
+    bytes_print(page, trace_end(trace) == TAMPERMAUVE_END_GOING ? " is <strong>still %s</strong> where its list of turns ends"
+                                                                : " is <strong>%s</strong>", end_word(trace_end(trace)));
     write_fate_counts(trace, page);
     bytes_print(page, "Of ");
     count_words(page, trace->turns, "turn", "turns");

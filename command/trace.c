@@ -5,7 +5,7 @@
 #include <stdlib.h>
 #include <string.h>
 
-enum { TROUBLE = 2 };
+#include "files.h"
 
 /* A run that grows by one turn at a time, of those that move. */
 struct play {

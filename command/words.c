@@ -107,7 +107,7 @@ struct phrase fate_phrase(const struct trace *trace, size_t move, unsigned worke
 
 const char *end_word(unsigned end)
 {
-    static const char *const words[] = {"still going", "finished", "stuck"};
+    static const char *const words[] = {"going", "finished", "stuck"};
     return words[end];
 }
 

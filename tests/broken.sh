@@ -60,9 +60,28 @@ c_tests() {
     changed "what README.md says that its program prints" README.md 's/^end 0, moving turns 2/end 0, moving turns 3/' '> end 0, moving turns 2' make test-readme
     changed "a constant of the header" include/tampermauve.h 's/8256/8257/' '> refused 11' make test-readme
     changed "a header that is no C++" include/tampermauve.h '$a int class;' 'header.cc.o] Error' make test-header
-    changed "what the host of many plans must print" tests/hosts.sh 's/^refused 14: a sleep/refused 4: a sleep/' 'refused 14: a sleep' make test-hosts
-    changed "what a host must print" tests/hosts.sh 's/26 moving turns/27 moving turns/' 'printed: finished: 26' make test-hosts
     fails "a test that does not exist" 'No rule to make target' make test-nothing
+}
+
+commands() {
+    changed "what the command must print" tests/command.sh 's/moving turns: 26/moving turns: 27/' 'printed: finished, moving turns: 26' make test-command
+    changed "a text that is told with another column" command/scan.c 's/(unsigned)(at - begin) + 1}/(unsigned)(at - begin)}/' 'things are not as expected' make test-command
+    changed "a page without the last record" command/tables.c 's/i < trace->given; i++/i + 1 < trace->given; i++/' 'has another log' make test-command
+    changed "a text with two registers exchanged" command/records.c 's/"add", "$q to $r"/"add", "$r to $q"/' ' failures' make test-text
+    changed "a label one step too far" command/assemble.c 's/label->number - skip->number - 1;/label->number - skip->number;/' ' failures' make test-text
+    changed "a text of the corpus" tests/fuzz/texts/text-race 's/race/rcae/' 'not those of tests/fuzz/texts.sum' make test-fuzz
+    changed "the plan of README.md" README.md 's/^    set r1 9$/    set r1 8/' '> word at 0: 8, before 0' make test-readme
+}
+
+installs() {
+    changed "another soname" install.mk 's/-soname,$(SONAME)/-soname,$(SO)/' '> libtampermauve.so' make test-install
+    changed "an export too many" install.mk 's/-Wl,--version-script=.* -Wl,--no-undefined-version/-Wl,--defsym=tampermauve_more=tampermauve_run/' '> tampermauve_more' make test-install
+    changed "a link that uninstall leaves" install.mk 's| $(libdir)/$(SONAME) | |' '> link usr/lib/libtampermauve.so.' make test-install
+    changed "uninstall takes more than is its own" install.mk 's|^\trm -f |\trm -rf "$(DESTDIR)$(includedir)" |' '< 644 usr/include/other' make test-install
+    changed "what README.md says, beside what is installed" README.md 's/^end 0, moving turns 2/end 0, moving turns 3/' '< end 0, moving turns 3' make test-install
+    changed "a version that is two" include/tampermauve.h 's/VERSION_PATCH .*/VERSION_PATCH 99/' '> 644 lib/libtampermauve.so.' make test-install
+    changed "the plan of a man page" man/tampermauve-plan.5 's/^    start 2 .*/    start 1/' '> finished' make test-install
+    changed "a man page with an unknown macro" man/tampermauve.3 's/^\.SH NAME/.XX\n&/' "'XX' not defined" make test-install
 }
 
 listings() {
@@ -73,7 +92,7 @@ listings() {
     changed "what rt expects of the listing program" crates/listing/stdout '1s/1/2/' 'crates/listing/stdout differ' make test-listings
     changed "what rt expects of the program vectors" crates/vectors/stdout '2s/1/2/' 'crates/vectors/stdout' make test-vectors
     printf '#!/bin/sh\n%s\nexit 3\n' "$PWD/target/bin/listing" >"$work/bin/ends-badly" && chmod +x "$work/bin/ends-badly"
-    fails "a listing program that ends with 3" 'plans/merge.plan is not listed' tests/listings.sh "$work/bin/ends-badly"
+    fails "a listing program that ends with 3" 'plans/merge.plan is not listed' tests/listings.sh "$work/bin/ends-badly" target/bin/tampermauve
 }
 
 apart() {
@@ -225,6 +244,8 @@ write_rt 0
 passes .ci/run >/dev/null || { cat "$work/gate"; echo "broken: the gate fails with nothing broken" >&2; exit 2; }
 
 c_tests
+commands
+installs
 listings
 apart
 pairs

@@ -333,6 +333,23 @@ all.steps: accepted, workers: 8, steps: 16' check - all.steps < <(cat race.plan)
     rm made.plan made.steps page page.html
 }
 
+# A page's tables have the log and the words that changed, and its picture has a mark for each record. The log is the listing program's.
+pages() {
+    local plan text rows words
+    for plan in "$plans"/*.plan adders.plan longest.plan; do
+        text=$("$listing" <"$plan")
+        [[ $text != refused* ]] || continue
+        expect 0 '' show "$plan" -o page.html
+        rows=$(sed -nE "/^<tr id='record-/ { s/<[^>]*>/ /g; p }" page.html | awk '{ print $2, $3, $4, $6, $7 }')
+        [ "$rows" = "$(sed '$d' <<<"$text")" ] || fail "the page of ${plan##*/} has another log: $rows"
+        [ "$(grep -c "<g id='mark-" page.html)" -eq "$(wc -l <<<"$rows")" ] || fail "the picture of ${plan##*/} has not a mark for each record"
+        words=$(sed -n "/<h2 id='memory'/,/<h2 id='log'/ { /^<tr>/ { s/<[^>]*>/ /g; p } }" page.html | awk '{ print "word at " $1 ": " $3 ", before " $2 }')
+        expect 0 any run "$plan"
+        [ "$words" = "$(grep '^word at' "$scratch.said")" ] || fail "the page of ${plan##*/} has other words: $words"
+    done
+    rm page.html
+}
+
 # A step more in the file is a step more in the text: every record of a plan goes there and back.
 there_and_back() {
     local plan
@@ -431,13 +448,13 @@ turns() {
     expect 0 "$(going 5)" run race.plan --turns turns
     head -c 65536 /dev/zero >turns
     expect 1 '' run race.plan --turns turns --keep none
-    complained 'race.plan: refused 12: a list of turns has at most 65535'
+    complained 'turns: refused 12: a list of turns has at most 65535'
     # A run tests 12, then the file, then 13.
     expect 1 '' run refused.plan --turns turns
-    complained 'refused.plan: refused 12: a list of turns has at most 65535'
+    complained 'turns: refused 12: a list of turns has at most 65535'
     printf '\0\1\2' >turns
     expect 1 '' run race.plan --turns turns --keep none
-    complained 'race.plan: refused 13: the plan has the workers 0 to 1, and turn 3 names worker 2'
+    complained 'turns: refused 13: the plan has the workers 0 to 1, and turn 3 names worker 2'
     expect 1 '' run refused.plan --turns turns
     complained "refused.plan: refused 7 at record 1, 'load r0 from 2047': $loads"
     absent none.*
@@ -462,9 +479,10 @@ memories() {
 first="the first record is the plan record, 'workers N', where N is 1 to 8"
 second="there is one plan record, 'workers N', and it is the first record"
 sizes="'barrier B size S' has B from 0 to 7 and S from 1 to 8; barriers ascend and stand before sleepers and steps"
-sleeps() { echo "'sleeper W' has W from 1 to the last worker, here $1; sleepers ascend and stand before the steps"; }
+sleeps() { echo "'sleeper W' has W from 1 to $1; sleepers ascend and stand before the steps"; }
+zeros='; its other bytes are 0'
 loads="'load' takes a register, r0 to r3, and an address, 0 to 2046"
-adds="takes a register, r0 to r3, and a register, r0 to r3"
+adds="takes two registers, r0 to r3"
 skips="'skip' takes a number of steps, 1 to 127, and a register, r0 to r3"
 lands="a skip lands just behind its worker's last step at the furthest; behind this one that worker has"
 
@@ -518,8 +536,8 @@ marks_and_places() {
         '1 0 0 0' '0 16 0 1' 'bytes 4D 51 00 10 00 01 00'
     refuses 3 0 1 'workers 0' "$first" 'workers 0' '0 0 0 0'
     refuses 3 0 1 'workers 9' "$first" 'workers 9' '9 0 0 0'
-    refuses 3 0 1 'record 4D 50 01 00 01 00 00' "$first" 'record 4D 50 01 00 01 00 00' '1 0 1 0'
-    refuses 3 0 1 'record 4D 50 01 00 00 00 01' "$first" 'record 4D 50 01 00 00 00 01' '1 0 0 256'
+    refuses 3 0 1 'record 4D 50 01 00 01 00 00' "$first$zeros" 'record 4D 50 01 00 01 00 00' '1 0 1 0'
+    refuses 3 0 1 'record 4D 50 01 00 00 00 01' "$first$zeros" 'record 4D 50 01 00 00 00 01' '1 0 0 256'
     refuses 3 0 3 'exit' "$first" 'worker 0\n\n exit\n' '0 38 0 0'
     refuses 3 0 1 'barrier 0 size 1' "$first" 'barrier 0 size 1\n' '0 1 0 1'
     refuses 3 1 3 'workers 1' "$second" 'workers 1\n\nworkers 1\n' '1 0 0 0' '1 0 0 0'
@@ -530,19 +548,19 @@ marks_and_places() {
     refuses 4 1 2 'barrier 8 size 1' "$sizes" 'workers 1\nbarrier 8 size 1\n' '1 0 0 0' '0 1 8 1'
     refuses 4 1 2 'barrier 7 size 0' "$sizes" 'workers 1\nbarrier 7 size 0\n' '1 0 0 0' '0 1 7 0'
     refuses 4 1 2 'barrier 7 size 9' "$sizes" 'workers 1\nbarrier 7 size 9\n' '1 0 0 0' '0 1 7 9'
-    refuses 4 1 2 'record 4D 50 01 01 00 01 00' "$sizes" 'workers 2\nrecord 4D 50 01 01 00 01 00\n' '2 0 0 0' '1 1 0 1'
+    refuses 4 1 2 'record 4D 50 01 01 00 01 00' "$sizes$zeros" 'workers 2\nrecord 4D 50 01 01 00 01 00\n' '2 0 0 0' '1 1 0 1'
     refuses 5 1 3 'exit' 'the plan has the workers 0 to 1, and this is a step of worker 2' 'workers 2\nworker 2\nexit\n' '2 0 0 0' '2 38 0 0'
     refuses 5 1 3 'exit' 'the plan has the workers 0 to 1, and this is a step of worker 255' 'workers 2\nworker 255\nexit\n' '2 0 0 0' '255 38 0 0'
     refuses 5 2 5 'exit' "the workers' blocks ascend, and here worker 0 stands behind a greater one" \
         'workers 2\nworker 1\nexit\nworker 0\nexit\n' '2 0 0 0' '1 38 0 0' '0 38 0 0'
     refuses $sleeper 1 2 'sleeper 0' "$(sleeps 1)" 'workers 2\nsleeper 0\n' '2 0 0 0' '0 2 0 0'
     refuses $sleeper 1 2 'sleeper 2' "$(sleeps 1)" 'workers 2\nsleeper 2\n' '2 0 0 0' '2 2 0 0'
-    refuses $sleeper 1 2 'sleeper 1' "$(sleeps 0)" 'workers 1\nsleeper 1\n' '1 0 0 0' '1 2 0 0'
+    refuses $sleeper 1 2 'sleeper 1' 'a plan of one worker has no sleepers' 'workers 1\nsleeper 1\n' '1 0 0 0' '1 2 0 0'
     refuses $sleeper 2 3 'sleeper 1' "$(sleeps 1)" 'workers 2\nsleeper 1\nsleeper 1\n' '2 0 0 0' '1 2 0 0' '1 2 0 0'
     refuses $sleeper 2 3 'sleeper 1' "$(sleeps 2)" 'workers 3\nsleeper 2\nsleeper 1\n' '3 0 0 0' '2 2 0 0' '1 2 0 0'
     refuses $sleeper 2 4 'sleeper 1' "$(sleeps 2)" 'workers 3\nworker 0\nexit\nsleeper 1\n' '3 0 0 0' '0 38 0 0' '1 2 0 0'
-    refuses $sleeper 1 2 'record 4D 50 01 02 01 00 00' "$(sleeps 2)" 'workers 3\nrecord 4D 50 01 02 01 00 00\n' '3 0 0 0' '1 2 1 0'
-    refuses $sleeper 1 2 'record 4D 50 01 02 00 00 01' "$(sleeps 2)" 'workers 3\nrecord 4D 50 01 02 00 00 01\n' '3 0 0 0' '1 2 0 256'
+    refuses $sleeper 1 2 'record 4D 50 01 02 01 00 00' "$(sleeps 2)$zeros" 'workers 3\nrecord 4D 50 01 02 01 00 00\n' '3 0 0 0' '1 2 1 0'
+    refuses $sleeper 1 2 'record 4D 50 01 02 00 00 01' "$(sleeps 2)$zeros" 'workers 3\nrecord 4D 50 01 02 00 00 01\n' '3 0 0 0' '1 2 0 256'
 }
 
 steps() {
@@ -607,7 +625,7 @@ lengths() {
             ;;
         *)
             expect 1 '' check cut.plan
-            complained "cut.plan: refused 1: $length bytes are no whole number of records, each of which has 7"
+            complained "cut.plan: refused 1: the length $length is no whole number of records, each of which has 7 bytes"
             expect 1 "refused 1 0" list - <cut.plan
             ;;
         esac
@@ -616,7 +634,7 @@ lengths() {
 
 worker 0
     load r0 from 2
-# refused 1: 20 bytes are no whole number of records, each of which has 7
+# refused 1: the length 20 is no whole number of records, each of which has 7 bytes
 # no whole record: 4D 50 00 16 00 02" disassemble cut.plan
     expect 1 '' check empty.steps
     complained "empty.steps: refused 1: $none"
@@ -683,7 +701,7 @@ texts() {
     wrong 'workers -1\n' "1:9: $count '-'"
     wrong 'workers 18446744073709551617\n' "1:9: $count '18446744073709551617'"
     wrong 'workers 1 2\n' "1:11: expected the end of the line, found '2'"
-    wrong 'workers 1\rworker 0\n' "1:11: expected the end of the line, found 'worker'"
+    wrong 'workers 1\rworker 0\n' "1:10: expected the end of the line, found the byte 0D"
     wrong 'Workers 1\n' "1:1: $line 'Workers'"
     wrong 'workers 1\n\0377\n' "2:1: $line the byte FF"
     wrong 'workers 1\nwor\0000ker 0\n' "2:1: $line 'wor'"
@@ -1031,7 +1049,7 @@ endless() {
     expect 2 '' run race.plan --memory /dev/zero
     complained 'tampermauve: /dev/zero: has more than 2048 bytes, and a memory has 2048'
     expect 1 '' run race.plan --turns /dev/zero
-    complained 'race.plan: refused 12: a list of turns has at most 65535'
+    complained '/dev/zero: refused 12: a list of turns has at most 65535'
     absent none.plan
 }
 
@@ -1057,7 +1075,7 @@ ended with 0" ]] || fail "disassemble to a terminal: $shown"
     [[ $shown == *'ended with 0' ]] || fail "a text from a terminal: $shown"
     bytes typed.plan '4d 50 01 00 00 00 00 4d 50 00 26 00 00 00'
     at_terminal 'MP\n\0004' check -
-    [[ $shown == *'standard input: refused 1: 3 bytes are no whole number of records, each of which has 7
+    [[ $shown == *'standard input: refused 1: the length 3 is no whole number of records, each of which has 7 bytes
 ended with 1' ]] || fail "a plan from a terminal: $shown"
     rm -f typed.plan
 }
@@ -1110,6 +1128,7 @@ test_all() { # NAME QUICK WAY...
         return
     fi
     good
+    pages
     there_and_back
     listings
     keeps

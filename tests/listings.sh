@@ -1,16 +1,32 @@
 #!/usr/bin/env bash
-# Runs a listing program on the plans of plans/ and on inputs at the limits, and compares what it prints; it must end with status 0, a
-# refused plan included. Usage: tests/listings.sh PROGRAM
+# Runs a listing program and the command's `list` on the plans of plans/ and on inputs at the limits, and compares what they print. The
+# program must end with status 0, a refused plan included, and the command with 1 for a refused plan. Each plan of plans/ is what the command
+# assembles from its text. Usage: tests/listings.sh PROGRAM COMMAND
 set -u -o pipefail
-program=$(realpath "$1") || exit 1
+program=$(realpath "$1") && command=$(realpath "$2") || exit 1
 cd "$(dirname "${BASH_SOURCE[0]}")/.." || exit 1
-plan_file=tests/plan_file.sh
+work=$(mktemp -d) || exit 1
+trap 'rm -rf "$work"' EXIT
 failed=0
 passed=0
 
-# Compares the listing of standard input with a file.
+assembled() {
+    "$command" assemble --unchecked - -o - 2>/dev/null
+}
+
+# What the command lists and the status that it ends with, behind the program's listing.
+both() {
+    local status=0
+    cat >"$work/plan"
+    "$program" <"$work/plan" || return
+    "$command" list - <"$work/plan" 2>/dev/null || status=$?
+    echo "status $status"
+}
+
+# Compares the listings of standard input with a file.
 listed() { # NAME EXPECTED
-    if "$program" | diff "$2" - >&2; then
+    cat "$2" >"$work/expected"
+    if both | diff <(cat "$work/expected" "$work/expected"; grep -q '^refused' "$work/expected" && echo status 1 || echo status 0) - >&2; then
         passed=$((passed + 1))
     else
         echo "listings: $1 is not listed as expected" >&2
@@ -22,23 +38,24 @@ same() { # FILE FILE
     cmp "$1" "$2" >&2 || failed=1
 }
 
-# As many workers, with all barriers and as many steps, as a file may have. The steps are all alike.
-filled() { # OP SLEEPER...
-    echo 8 0 0 0
-    for barrier in {0..7}; do echo 0 1 "$barrier" 1; done
-    for sleeper in "${@:2}"; do echo "$sleeper" 2 0 0; done
+# As many workers, with all barriers and as many steps, as a file may have, as text. The steps are all alike.
+filled() { # STEP SLEEPER...
+    echo workers 8
+    for barrier in {0..7}; do echo "barrier $barrier size 1"; done
+    for sleeper in "${@:2}"; do echo "sleeper $sleeper"; done
     for worker in {0..7}; do
-        for _ in {1..128}; do echo "$worker" "$1" 0 0; done
+        echo "worker $worker"
+        for _ in {1..128}; do echo "$1"; done
     done
 }
 
-longest() { # OP
+longest() { # STEP
     filled "$1" {1..7}
 }
 
 # The same, in which worker 0 starts all others before its other steps.
-started() { # OP
-    longest "$1" | awk -v op="$1" '$1 == 0 && $2 == op && ++step <= 7 { print 0, 39, 0, step; next } 1'
+started() { # STEP
+    longest "$1" | awk -v step="$1" '$0 == step && ++count <= 7 { print "start", count; next } 1'
 }
 
 # Every worker runs its 128 steps to the end in round 1: 128 moves, the arrival, the exit.
@@ -78,18 +95,18 @@ started_listing() {
 
 # A plan has three files: its text, its bytes and its listing. What has one of them must have all.
 for name in $(printf '%s\n' plans/*.* | sed 's/\.[a-z]*$//' | sort -u); do
-    same <("$plan_file" <"$name.steps") "$name.plan"
+    same <(assembled <"$name.steps") "$name.plan"
     listed "$name.plan" "$name.listing" <"$name.plan"
 done
 same plans/race.plan crates/listing/stdin
 same plans/race.listing crates/listing/stdout
 
-listed "the longest file without sleepers, of sets" <(sets_listing) < <(filled 16 | "$plan_file")
-listed "the longest file without sleepers, of signals" <(signals_listing) < <(filled 35 | "$plan_file")
-listed "the longest file, of sets" <(asleep_listing) < <(longest 16 | "$plan_file")
-listed "the longest file, of starts and signals" <(started_listing) < <(started 35 | "$plan_file")
-listed "a record more than the longest file" <(echo refused 1 0) < <({ longest 16; echo 7 16 0 0; } | "$plan_file")
-listed "a byte more than the longest file" <(echo refused 1 0) < <(longest 16 | "$plan_file"; printf M)
+listed "the longest file without sleepers, of sets" <(sets_listing) < <(filled "set r0 0" | assembled)
+listed "the longest file without sleepers, of signals" <(signals_listing) < <(filled "signal 0" | assembled)
+listed "the longest file, of sets" <(asleep_listing) < <(longest "set r0 0" | assembled)
+listed "the longest file, of starts and signals" <(started_listing) < <(started "signal 0" | assembled)
+listed "a record more than the longest file" <(echo refused 1 0) < <({ longest "set r0 0"; echo "set r0 0"; } | assembled)
+listed "a byte more than the longest file" <(echo refused 1 0) < <(longest "set r0 0" | assembled; printf M)
 listed "a byte less than a record" <(echo refused 1 0) < <(head -c 6 plans/race.plan)
 listed "empty input" <(echo refused 1 0) </dev/null
 for zeros in 7 7280 7287 100000; do
