@@ -16,7 +16,7 @@ fail() {
     exit 1
 }
 
-browser=$(command -v chromium || command -v chromium-browser || command -v google-chrome) || fail "there is no Chromium here"
+browser=$(command -v chromium || command -v chromium-browser || command -v google-chrome) || fail "there is no Chromium here; it is the Debian package chromium"
 
 # PAGE, then options
 browse() {
