@@ -106,13 +106,11 @@ pub mod UnnamedBytes
 
 -- Cases 1 to 10 as one table, with the bytes that each leaves.
 pub mod Table
--- Calls with several plans as another.
-pub mod BatchTable
--- Plans of Seven as a third, and the bytes that they name.
+-- Plans of Seven as another, with the addresses that they name.
 pub mod NamedTable
 -- What is to be computed of a case, and what demand 3 gives.
 pub mod Worked
--- The definitions yield all three.
+-- The definitions yield both.
 pub mod Cases
 -- The definitions yield case 1's text, byte by byte.
 pub mod Texts

@@ -1,12 +1,13 @@
 -- Document 01, "Plans to check against": cases 1 to 10 as one table, each with the bytes that it leaves, worked out by hand. Behind them
--- stand plans of our own: for a sentence that none of the ten shows, and for the requests of document 02.
+-- stand plans of our own: for a sentence that none of the ten shows, and those of the requests of document 02 without which a mistake in the
+-- definitions would not show here. The other plans of the requests are in the crate `cases`, in one theorem with these.
 use Prim.Native.Nat.{ℕ, _-_, _/_, _%_}
 use mathlib.Core.List.{List, [], _∷_, _++_}
 use lib.ListN.{length, replicate}
-use Rattle.protocol.specs.Format.{countingLocks, planOf}
+use Rattle.protocol.specs.Format.{planOf}
 use Rattle.protocol.specs.RoundRun.{roundRun}
 use Rattle.protocol.specs.Listing.{listedTurns}
-use Rattle.protocol.specs.Calls.{memoryLength, logLength, reportLength, workLength, Buffers, Reply, buffersOf, playedFrom, run}
+use Rattle.protocol.specs.Calls.{memoryLength, logLength, reportLength, workLength, Buffers, Reply, buffersOf, run}
 
 -- "Turns are the listing program's, save in case 10." That has no turns. Those of Six, and two of Seven, have three of worker 0.
 pub data Fed : Type 0 where
@@ -121,13 +122,13 @@ stores w number = storesAt w number 0
 abbrev adds : ℕ → List ℕ
 adds w = rec w 17 0 0 ++ rec w 16 1 1 ++ rec w 19 0 1 ++ rec w 18 0 0
 
-abbrev locks : ℕ → ℕ → List ℕ
+abbrev pub locks : ℕ → ℕ → List ℕ
 locks w k = rec w 32 0 k
 
-abbrev unlocks : ℕ → ℕ → List ℕ
+abbrev pub unlocks : ℕ → ℕ → List ℕ
 unlocks w k = rec w 33 0 k
 
-abbrev locked : ℕ → List ℕ → List ℕ
+abbrev pub locked : ℕ → List ℕ → List ℕ
 locked w steps = locks w 0 ++ steps ++ unlocks w 0
 
 -- "One worker: lock, wait."
@@ -135,19 +136,19 @@ abbrev pub waiter : List ℕ
 waiter = planRec 1 ++ rec 0 32 0 0 ++ rec 0 34 0 0
 
 -- lock, wait on a condition, unlock
-abbrev waits : ℕ → ℕ → List ℕ
+abbrev pub waits : ℕ → ℕ → List ℕ
 waits w condition = locked w (rec w 34 0 condition)
 
 -- a lock with count 0 before it, and a wait
-abbrev waited : ℕ → ℕ → List ℕ
+abbrev pub waited : ℕ → ℕ → List ℕ
 waited w condition = entry 1 w 32 0 1 ++ entry 1 w 34 condition 255
 
 -- the unlock to count 0, in round 1
-abbrev unlocked : ℕ → List ℕ
+abbrev pub unlocked : ℕ → List ℕ
 unlocked w = entry 1 w 33 0 0
 
 -- the exits of round 2, in this order
-abbrev leave : List ℕ → List ℕ
+abbrev pub leave : List ℕ → List ℕ
 leave [] = []
 leave (w ∷ ws) = entry 2 w 38 0 255 ++ leave ws
 
@@ -155,15 +156,23 @@ abbrev pub case : List ℕ → List ℕ → Fed → List ℕ → List ℕ → Li
 case f l t m g r = record { file = f; lent = l; fed = t; memory = m; log = g; report = r }
 
 -- one worker commits a 9 at 0, and then fails
-abbrev fails : List ℕ → List ℕ → ℕ → ℕ → ℕ → Case
+abbrev pub fails : List ℕ → List ℕ → ℕ → ℕ → ℕ → Case
 fails steps log moves rounds records = case (planRec 1 ++ steps) [] listing (9 ∷ []) log (report 1 1 moves rounds records (one 2) (small 9))
 
 -- Five: "unlocking one that it doesn't hold", lock 1 with lock 0 held; and "locking one that this worker already holds", lock 3
-abbrev wrongUnlock : List ℕ
+abbrev pub wrongUnlock : List ℕ
 wrongUnlock = planRec 1 ++ locks 0 0 ++ stores 0 9 ++ unlocks 0 1
 
-abbrev lockTwice : List ℕ
+abbrev pub lockTwice : List ℕ
 lockTwice = planRec 1 ++ locks 0 3 ++ stores 0 9 ++ locks 0 3
+
+-- copy the word at 6 to 10
+abbrev pub copier : List ℕ
+copier = planRec 1 ++ rec 0 17 0 6 ++ rec 0 18 0 10
+
+-- one worker that exits
+abbrev pub lone : List ℕ → List ℕ → List ℕ → ℕ → List ℕ → Case
+lone file lent left moves total = case file lent listing left (entry 1 0 38 0 255) (report 1 1 moves 1 1 (one 1) total)
 
 unfoldable pub cases : List Case
 cases =
@@ -198,146 +207,17 @@ cases =
     ∷ case (planRec 1 ++ rec 0 18 0 0 ++ rec 0 18 1 2 ++ rec 0 18 2 4 ++ rec 0 18 3 6) (replicate 8 8) listing []
     (entry 1 0 38 0 255)
     (report 1 1 6 1 1 (one 1) (small 0))
-    -- One: "A plan is finished when every worker exited, failed or sleeps": nobody starts worker 1, whose store is never made.
-    ∷ case (planRec 2 ++ sleepRec 1 ++ stores 1 7) [] listing [] (entry 1 0 38 0 255) (report 1 2 2 1 1 (both 1 5) (small 0))
-    -- One: "1, or 253 if the worker wasn't asleep": worker 0 starts worker 1 twice, keeps the token and stores 7 at 0, worker 1 starts worker 2
-    -- in round 2, and worker 2 copies the word at 0 to 2 in round 3.
-    ∷ case
-    (planRec 3 ++ sleepRec 1 ++ sleepRec 2 ++ rec 0 39 0 1 ++ rec 0 39 0 1 ++ stores 0 7 ++ rec 1 39 0 2 ++ rec 2 17 0 0 ++ rec 2 18 0 2)
-    [] listing (7 ∷ 0 ∷ 7 ∷ [])
-    (entry 1 0 39 1 1 ++ entry 1 0 39 1 253 ++ entry 1 0 38 0 255 ++ entry 2 1 39 2 1 ++ entry 2 1 38 0 255 ++ entry 3 2 38 0 255)
-    (report 1 3 13 3 6 (1 ∷ 1 ∷ 1 ∷ replicate 5 255) (small 14))
-    -- One: "the sleeper joins the tail of the next round's list": worker 3, started by worker 1, is there before worker 0, whom worker 1 frees
-    -- from the barrier, worker 1 itself, and worker 2. The store between start and barrier is committed by the barrier.
-    ∷ case
-    (planRec 4 ++ rec 0 1 0 2 ++ sleepRec 3 ++ rec 0 37 0 0 ++ rec 1 39 0 3 ++ stores 1 5 ++ rec 1 37 0 0 ++ locked 2 [])
-    [] listing (5 ∷ [])
-    (entry 1 0 37 0 0 ++ entry 1 1 39 3 1 ++ entry 1 1 37 0 2 ++ entry 1 2 32 0 1 ++ entry 1 2 33 0 0
-    ++ entry 2 3 38 0 255 ++ entry 2 0 38 0 255 ++ entry 2 1 38 0 255 ++ entry 2 2 38 0 255)
-    (report 1 4 18 2 9 (1 ∷ 1 ∷ 1 ∷ 1 ∷ replicate 4 255) (small 5))
-    -- Two: "all waiters go directly behind the holder, first waiter first": workers 0, 2 and 3 wait on condition 0, worker 1 on condition 1.
-    -- Worker 4, with a lock, keeps the token until its unlock.
-    ∷ case (planRec 5 ++ waits 0 0 ++ waits 1 1 ++ waits 2 0 ++ waits 3 0 ++ locked 4 (rec 4 36 0 0)) [] listing []
-    (waited 0 0 ++ waited 1 1 ++ waited 2 0 ++ waited 3 0 ++ entry 1 4 32 0 1 ++ entry 1 4 36 0 3 ++ unlocked 4
-    ++ unlocked 0 ++ unlocked 2 ++ unlocked 3 ++ leave (4 ∷ 0 ∷ 2 ∷ 3 ∷ []))
-    (report 2 5 27 2 18 (1 ∷ 3 ∷ 1 ∷ 1 ∷ 1 ∷ replicate 3 255) (small 0))
-    -- The same without the lock: worker 4 gives up the token.
-    ∷ case (planRec 5 ++ waits 0 0 ++ waits 1 1 ++ waits 2 0 ++ waits 3 0 ++ rec 4 36 0 0) [] listing []
-    (waited 0 0 ++ waited 1 1 ++ waited 2 0 ++ waited 3 0 ++ entry 1 4 36 0 3
-    ++ unlocked 0 ++ unlocked 2 ++ unlocked 3 ++ leave (4 ∷ 0 ∷ 2 ∷ 3 ∷ []))
-    (report 2 5 25 2 16 (1 ∷ 3 ∷ 1 ∷ 1 ∷ 1 ∷ replicate 3 255) (small 0))
     -- Two: "0 if none": worker 0 without a lock, after a store that the broadcast commits, and worker 1 with one.
     ∷ case (planRec 2 ++ stores 0 9 ++ rec 0 36 0 3 ++ locked 1 (rec 1 36 0 3)) [] listing (9 ∷ [])
     (entry 1 0 36 3 0 ++ entry 1 1 32 0 1 ++ entry 1 1 36 3 0 ++ unlocked 1 ++ leave (0 ∷ 1 ∷ []))
     (report 1 2 12 2 6 (both 1 1) (small 9))
-    -- Two, behind a signal of the same holder: the list is 3, 0, 4 after the signal and 3, 1, 2, 0, 4 after the broadcast.
-    ∷ case
-    (planRec 5 ++ waits 0 0 ++ waits 1 0 ++ waits 2 0 ++ locked 3 (rec 3 35 0 0 ++ rec 3 36 0 0) ++ locked 4 [])
-    [] listing []
-    (waited 0 0 ++ waited 1 0 ++ waited 2 0 ++ entry 1 3 32 0 1 ++ entry 1 3 35 0 0 ++ entry 1 3 36 0 2 ++ unlocked 3
-    ++ unlocked 1 ++ unlocked 2 ++ unlocked 0 ++ entry 1 4 32 0 1 ++ unlocked 4 ++ leave (3 ∷ 1 ∷ 2 ∷ 0 ∷ 4 ∷ []))
-    (report 1 5 30 2 20 (replicate 5 1 ++ replicate 3 255) (small 0))
-    -- Two workers signal back and forth: six come into the list of round 1.
-    ∷ case
-    (planRec 2 ++ locked 0 (rec 0 34 0 0 ++ rec 0 35 0 1 ++ rec 0 34 0 0 ++ rec 0 35 0 1)
-    ++ locked 1 (rec 1 35 0 0 ++ rec 1 34 0 1 ++ rec 1 35 0 0 ++ rec 1 34 0 1))
-    [] listing []
-    (waited 0 0 ++ entry 1 1 32 0 1 ++ entry 1 1 35 0 0 ++ entry 1 1 34 1 255 ++ entry 1 0 35 1 1 ++ entry 1 0 34 0 255
-    ++ entry 1 1 35 0 0 ++ entry 1 1 34 1 255 ++ entry 1 0 35 1 1 ++ unlocked 0 ++ unlocked 1 ++ leave (0 ∷ 1 ∷ []))
-    (report 1 2 18 2 14 (both 1 1) (small 0))
-    -- Three workers broadcast in turn: nine come into the list of round 1.
-    ∷ case
-    (planRec 3 ++ locked 0 (rec 0 34 0 0 ++ rec 0 34 0 0 ++ rec 0 36 0 0) ++ locked 1 (rec 1 34 0 0 ++ rec 1 36 0 0 ++ rec 1 34 0 0)
-    ++ locked 2 (rec 2 36 0 0 ++ rec 2 34 0 0 ++ rec 2 34 0 0))
-    [] listing []
-    (waited 0 0 ++ waited 1 0 ++ entry 1 2 32 0 1 ++ entry 1 2 36 0 2 ++ entry 1 2 34 0 255 ++ entry 1 0 34 0 255
-    ++ entry 1 1 36 0 2 ++ entry 1 1 34 0 255 ++ entry 1 2 34 0 255 ++ entry 1 0 36 0 2 ++ unlocked 0 ++ unlocked 1 ++ unlocked 2
-    ++ leave (0 ∷ 1 ∷ 2 ∷ []))
-    (report 1 3 24 2 18 (replicate 3 1 ++ replicate 5 255) (small 0))
-    -- Three, "at every commit": address 0 holds 5 and both store 7 there. The second commit writes what stands there, and moves nothing.
-    ∷ case (planRec 2 ++ stores 0 7 ++ stores 1 7) (5 ∷ []) listing (7 ∷ []) (exits 1) (report 1 2 8 1 2 (both 1 1) (small 7))
     -- Three, "every step that commits passes this on": a worker stores 9, commits, and stays at its wait or barrier ..
     ∷ case (planRec 1 ++ rec 0 32 0 0 ++ stores 0 9 ++ rec 0 34 0 0) [] listing (9 ∷ []) (waited 0 0) (report 2 1 5 1 2 (one 3) (small 9))
     ∷ case (planRec 1 ++ rec 0 1 0 2 ++ stores 0 9 ++ rec 0 37 0 0) [] listing (9 ∷ []) (entry 1 0 37 0 0) (report 2 1 4 1 1 (one 4) (small 9))
-    -- .. or fails, behind a lock, an unlock, a signal, a broadcast, a barrier of size 1 and a start of its own.
-    ∷ fails (stores 0 9 ++ rec 0 32 0 0 ++ rec 0 38 0 0) (entry 1 0 32 0 1 ++ entry 1 0 38 0 254) 5 1 2
-    ∷ fails (locked 0 (stores 0 9) ++ rec 0 33 0 0) (entry 1 0 32 0 1 ++ unlocked 0 ++ entry 2 0 33 0 254) 7 2 3
+    -- .. or fails, behind a signal. The other steps that commit, each with a worker that fails behind it, are in the crate `cases`.
     ∷ fails (stores 0 9 ++ rec 0 35 0 0 ++ rec 0 33 0 0) (entry 1 0 35 0 255 ++ entry 2 0 33 0 254) 6 2 2
-    ∷ fails (stores 0 9 ++ rec 0 36 0 0 ++ rec 0 33 0 0) (entry 1 0 36 0 0 ++ entry 2 0 33 0 254) 6 2 2
-    ∷ fails (rec 0 1 0 1 ++ stores 0 9 ++ rec 0 37 0 0 ++ rec 0 33 0 0) (entry 1 0 37 0 1 ++ entry 2 0 33 0 254) 6 2 2
-    ∷ fails (stores 0 9 ++ rec 0 39 0 0 ++ rec 0 33 0 0) (entry 1 0 39 0 253 ++ entry 1 0 33 0 254) 5 1 2
-    -- Three, a word of two words: 770 at 1 is 2 in the upper byte of the word at 0, and 3 in the lower one of the next.
-    ∷ case (planRec 1 ++ storesAt 0 770 1) [] listing (0 ∷ 2 ∷ 3 ∷ []) (entry 1 0 38 0 255) (report 1 1 4 1 1 (one 1) (sum 3 2 0 0))
-    -- .. and of two pages: 770 at 255.
-    ∷ case (planRec 1 ++ storesAt 0 770 255) [] listing (replicate 255 0 ++ (2 ∷ 3 ∷ [])) (entry 1 0 38 0 255)
-    (report 1 1 4 1 1 (one 1) (sum 3 2 0 0))
-    -- Three, memory of all 255, and no turns: 1,024 × 65,535 = 67,107,840.
-    ∷ case race (replicate 2048 255) nothing (replicate 2048 255) [] (report 0 2 0 0 0 (both 0 0) (sum 0 252 255 3))
-    -- .. and a 0 stored over the first word: the sum falls by 65,535, to 67,042,305.
-    ∷ case (planRec 1 ++ stores 0 0) (replicate 2048 255) listing (0 ∷ 0 ∷ replicate 2046 255) (entry 1 0 38 0 255)
-    (report 1 1 4 1 1 (one 1) (sum 1 252 254 3))
-    -- Five: two locks, given back in the order in which they were taken, and in the other one. "Outcomes show how many are held after."
-    ∷ case (planRec 1 ++ locks 0 1 ++ locks 0 2 ++ stores 0 9 ++ unlocks 0 1 ++ unlocks 0 2) [] listing (9 ∷ [])
-    (entry 1 0 32 1 1 ++ entry 1 0 32 2 2 ++ entry 1 0 33 1 1 ++ entry 1 0 33 2 0 ++ entry 2 0 38 0 255)
-    (report 1 1 9 2 5 (one 1) (small 9))
-    ∷ case (planRec 1 ++ locks 0 1 ++ locks 0 2 ++ stores 0 9 ++ unlocks 0 2 ++ unlocks 0 1) [] listing (9 ∷ [])
-    (entry 1 0 32 1 1 ++ entry 1 0 32 2 2 ++ entry 1 0 33 2 1 ++ entry 1 0 33 1 0 ++ entry 2 0 38 0 255)
-    (report 1 1 9 2 5 (one 1) (small 9))
-    -- Five: the wrong one unlocked, one lock taken twice. The store is lost.
+    -- Five: the wrong one unlocked. The store is lost.
     ∷ case wrongUnlock [] listing [] (entry 1 0 32 0 1 ++ entry 1 0 33 1 254) (report 1 1 5 1 2 (one 2) (small 0))
-    ∷ case lockTwice [] listing [] (entry 1 0 32 3 1 ++ entry 1 0 32 3 254) (report 1 1 5 1 2 (one 2) (small 0))
-    -- Five: lock 2, given back with lock 1 held, is given back once more. The inner unlock has committed nothing.
-    ∷ case (planRec 1 ++ locks 0 1 ++ locks 0 2 ++ stores 0 9 ++ unlocks 0 2 ++ unlocks 0 2) [] listing []
-    (entry 1 0 32 1 1 ++ entry 1 0 32 2 2 ++ entry 1 0 33 2 1 ++ entry 1 0 33 2 254)
-    (report 1 1 7 1 4 (one 2) (small 0))
-    -- Five: worker 0 waits with locks 1 and 2, and holds both on waking. "What other workers hold plays no part": worker 1 takes lock 1 meanwhile.
-    ∷ case
-    (planRec 2 ++ locks 0 1 ++ locks 0 2 ++ rec 0 34 0 0 ++ unlocks 0 1 ++ unlocks 0 2 ++ locks 1 1 ++ rec 1 35 0 0 ++ unlocks 1 1)
-    [] listing []
-    (entry 1 0 32 1 1 ++ entry 1 0 32 2 2 ++ entry 1 0 34 0 255 ++ entry 1 1 32 1 1 ++ entry 1 1 35 0 0 ++ entry 1 1 33 1 0
-    ++ entry 1 0 33 1 1 ++ entry 1 0 33 2 0 ++ leave (1 ∷ 0 ∷ []))
-    (report 1 2 14 2 10 (both 1 1) (small 0))
-    ∷ []
-
--- Six: worker 0 has this step and then an exit, the other worker none. Of three turns of worker 0 a step of its own moves, and its arrival at
--- the exit; a step that synchronises is its arrival, and no turn behind it moves. Address 0 holds 5, and nothing is committed.
-abbrev point : ℕ → ℕ → ℕ → ℕ → Case
-point op register number moves =
-    case (planRec 2 ++ rec 0 1 0 2 ++ rec 0 op register number ++ rec 0 38 0 0) (5 ∷ []) thrice (5 ∷ []) []
-    (report 0 2 moves 0 0 (both 0 0) (small 5))
-
--- "one for each op", in the order of the table
-unfoldable pub points : List Case
-points =
-    point 16 0 7 2
-    ∷ point 17 0 0 2
-    ∷ point 18 0 0 2
-    ∷ point 19 0 1 2
-    ∷ point 20 0 1 2
-    ∷ point 21 0 1 2
-    ∷ point 22 0 1 2
-    ∷ point 32 0 0 1
-    ∷ point 33 0 0 1
-    ∷ point 34 0 0 1
-    ∷ point 35 0 0 1
-    ∷ point 36 0 0 1
-    ∷ point 37 0 0 1
-    ∷ point 38 0 0 1
-    ∷ point 39 0 1 1
-    ∷ []
-
--- What document 01 says of the two plans that fail: "Only the count matters, not which lock."
-unfoldable pub countedCases : List Case
-countedCases =
-    -- it ran on, and the unlock committed
-    case wrongUnlock [] listing (9 ∷ []) (entry 1 0 32 0 1 ++ entry 1 0 33 1 0 ++ entry 2 0 38 0 255) (report 1 1 7 2 3 (one 1) (small 9))
-    -- it ran on to its end, where "exit with count above 0" fails
-    ∷ case lockTwice [] listing [] (entry 1 0 32 3 1 ++ entry 1 0 32 3 2 ++ entry 1 0 38 0 254) (report 1 1 6 1 3 (one 2) (small 0))
-    ∷ []
-
--- what the definitions yield with locks by count, by turns and by the round-by-round run
-unfoldable pub yieldsCounted : Case → List Reply
-yieldsCounted c =
-    record { returned = 0; buffers = buffersOf (playedFrom (countingLocks (planOf (c .file))) (lentTo c .memory) (turnsOf c)) }
-    ∷ record { returned = 0; buffers = buffersOf (roundRun (countingLocks (planOf (c .file))) (lentTo c .memory)) }
+    -- Seven, "and the next": a 1 at 7 is copied to 11. It is named, and memory elsewhere is another.
+    ∷ lone copier (replicate 6 0 ++ (5 ∷ 1 ∷ [])) (replicate 6 0 ++ (5 ∷ 1 ∷ 0 ∷ 0 ∷ 5 ∷ 1 ∷ [])) 4 (sum 10 2 0 0)
     ∷ []
