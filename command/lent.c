@@ -2,10 +2,22 @@
 
 #include <string.h>
 
+/* The library wants a pointer also where there is no byte. */
+static const uint8_t *some(const uint8_t *bytes)
+{
+    static const uint8_t none[1];
+    return bytes != NULL ? bytes : none;
+}
+
+uint32_t lent_check(const uint8_t *file, size_t length)
+{
+    return tampermauve_check(some(file), length);
+}
+
 uint32_t lent_run(struct lent *lent, const uint8_t *file, size_t length, const uint8_t *turns, size_t turns_length)
 {
-    return tampermauve_run(file, length, turns, turns_length, lent->memory, sizeof lent->memory, lent->log, sizeof lent->log,
-                           lent->report, sizeof lent->report, lent->work, sizeof lent->work);
+    return tampermauve_run(some(file), length, some(turns), turns_length, lent->memory, sizeof lent->memory, lent->log,
+                           sizeof lent->log, lent->report, sizeof lent->report, lent->work, sizeof lent->work);
 }
 
 size_t steps_of(const uint8_t *file, size_t length)

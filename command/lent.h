@@ -20,6 +20,9 @@ struct turns {
     size_t length;
 };
 
+/* Checks a plan file: the library's answer. Here and below a pointer may be NULL where the length is 0. */
+uint32_t lent_check(const uint8_t *file, size_t length);
+
 /* Runs a plan by a list of turns: the library's answer. `lent->memory` is the starting memory. */
 uint32_t lent_run(struct lent *lent, const uint8_t *file, size_t length, const uint8_t *turns, size_t turns_length);
 

@@ -53,17 +53,27 @@ static bool take(const char *command, unsigned set, char **words, size_t count, 
     return true;
 }
 
-static bool reads_input(const char *path)
+static bool is_dash(const char *path)
 {
     return path != NULL && strcmp(path, "-") == 0;
 }
 
 static bool inputs_fit(const char *command, const struct options *o)
 {
-    int inputs = reads_input(o->memory) + reads_input(o->turns);
+    int inputs = is_dash(o->memory) + is_dash(o->turns);
     for (size_t i = 0; i < o->count; i++)
-        inputs += reads_input(o->operands[i]);
+        inputs += is_dash(o->operands[i]);
     return inputs <= 1 || complain(command, "standard input can be read once, and ", "-", " is given more often");
+}
+
+/* A plan or text that is written over by what is made of it is gone. */
+static bool output_fits(const char *command, unsigned set, const struct options *o)
+{
+    if ((set & NEEDS_OUTPUT) != 0 && o->output == NULL)
+        return complain(command, "", "-o", " is missing, with the file to write");
+    if (o->output != NULL && !is_dash(o->output) && strcmp(o->output, o->operands[0]) == 0)
+        return complain(command, "'", o->output, "' is read, and cannot be written as well");
+    return true;
 }
 
 static bool fits(const char *command, unsigned set, const struct options *o)
@@ -76,9 +86,7 @@ static bool fits(const char *command, unsigned set, const struct options *o)
         return complain(command, "'", o->operands[1], "' is one word too many");
     if ((o->turns != NULL) + (o->cycles != NULL) + (o->seed != NULL) > 1)
         return complain(command, "of --turns, --cycles and --seed one can be given", "", "");
-    if ((set & NEEDS_OUTPUT) != 0 && o->output == NULL)
-        return complain(command, "", "-o", " is missing, with the file to write");
-    return inputs_fit(command, o);
+    return output_fits(command, set, o) && inputs_fit(command, o);
 }
 
 bool options_read(const char *command, unsigned set, char **words, size_t count, struct options *options)

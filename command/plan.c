@@ -4,6 +4,7 @@
 #include <string.h>
 
 #include "assemble.h"
+#include "lent.h"
 #include "records.h"
 #include "refusals.h"
 #include "tampermauve.h"
@@ -29,12 +30,6 @@ static enum status assembled(struct plan *plan, const struct bytes *text)
     return fine ? FINE : REFUSED;
 }
 
-static uint32_t checked(const struct plan *plan)
-{
-    static const uint8_t nothing[1];
-    return tampermauve_check(plan->file.length > 0 ? plan->file.at : nothing, plan->file.length);
-}
-
 enum status text_read(const char *path, struct plan *plan)
 {
     struct bytes text = {0};
@@ -49,7 +44,7 @@ enum status text_read(const char *path, struct plan *plan)
     else
         status = assembled(plan, &text);
     bytes_free(&text);
-    plan->answer = status == FINE ? checked(plan) : TAMPERMAUVE_ACCEPTED;
+    plan->answer = status == FINE ? lent_check(plan->file.at, plan->file.length) : TAMPERMAUVE_ACCEPTED;
     return status;
 }
 
@@ -64,7 +59,7 @@ enum status plan_read(const char *path, struct plan *plan)
     plan->is_cut = plan->file.length > FILE_ROOM;
     if (plan->is_cut)
         plan->file.length = FILE_ROOM;
-    plan->answer = checked(plan);
+    plan->answer = lent_check(plan->file.at, plan->file.length);
     return FINE;
 }
 

@@ -147,21 +147,20 @@ void refusal_print(struct bytes *words, const uint8_t *file, size_t length, uint
     }
 }
 
-static size_t first_bad_turn(const struct turns *turns, unsigned workers)
+/* The first turn that names no worker of the plan, which is accepted. */
+static void print_bad_turn(struct bytes *words, unsigned workers, const struct turns *turns)
 {
     size_t i = 0;
-    while (i < turns->length && turns->at[i] < workers)
+    while (turns->at[i] < workers)
         i++;
-    return i;
+    bytes_print(words, "the plan has the workers 0 to %u, and turn %u names worker %u", workers - 1, (unsigned)i + 1,
+                (unsigned)turns->at[i]);
 }
 
 void turns_refusal_print(struct bytes *words, const uint8_t *file, const struct turns *turns, uint32_t answer)
 {
-    unsigned workers = workers_of(file);
-    size_t bad = first_bad_turn(turns, workers);
-    if (tampermauve_refusal(answer) == TAMPERMAUVE_BAD_TURN && bad < turns->length)
-        bytes_print(words, "the plan has the workers 0 to %u, and turn %u names worker %u", workers - 1, (unsigned)bad + 1,
-                    (unsigned)turns->at[bad]);
+    if (tampermauve_refusal(answer) == TAMPERMAUVE_BAD_TURN)
+        print_bad_turn(words, workers_of(file), turns);
     else
         bytes_print(words, "a list of turns has at most %u", TAMPERMAUVE_TURNS_LIMIT);
 }

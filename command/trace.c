@@ -28,9 +28,8 @@ static void expect(bool holds, const char *what)
 
 static void run_from_start(const struct play *play, struct lent *lent, const uint8_t *turns, size_t turns_length)
 {
-    static const uint8_t none[1];
     memcpy(lent->memory, play->trace->memory, sizeof lent->memory);
-    expect(lent_run(lent, play->file, play->length, turns_length > 0 ? turns : none, turns_length) == TAMPERMAUVE_ACCEPTED,
+    expect(lent_run(lent, play->file, play->length, turns, turns_length) == TAMPERMAUVE_ACCEPTED,
            "a run of an accepted plan is refused");
 }
 

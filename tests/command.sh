@@ -452,11 +452,15 @@ turns() {
     # A run tests 12, then the file, then 13.
     expect 1 '' run refused.plan --turns turns
     complained 'turns: refused 12: a list of turns has at most 65535'
+    expect 1 '' run /dev/null --turns turns
+    complained 'turns: refused 12: a list of turns has at most 65535'
     printf '\0\1\2' >turns
     expect 1 '' run race.plan --turns turns --keep none
     complained 'turns: refused 13: the plan has the workers 0 to 1, and turn 3 names worker 2'
     expect 1 '' run refused.plan --turns turns
     complained "refused.plan: refused 7 at record 1, 'load r0 from 2047': $loads"
+    expect 1 '' run /dev/null --turns turns --keep none
+    complained '/dev/null: refused 1: there is no record; a plan has 1 to 1040, and the first is its plan record'
     absent none.*
     rm turns half.*
 }
@@ -818,6 +822,7 @@ words() {
     misused 'a text is missing' assemble -o none
     misused '-o is missing, with the file to write' assemble race.steps
     misused '-o is missing, with the file to write' show race.plan
+    misused "'race.steps' is read, and cannot be written as well" assemble race.steps -o race.steps
     for command in run list disassemble; do misused "'all.plan' is one word too many" $command race.plan all.plan; done
     misused "'all.plan' is one word too many" show race.plan all.plan -o none
     misused "'all.steps' is one word too many" assemble race.steps all.steps -o none
