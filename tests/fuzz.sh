@@ -6,7 +6,9 @@
 # tests/fuzz.sh keep [texts] [ARCHIVE] [INCLUDE]    keep those new inputs that add coverage
 # tests/fuzz.sh seeds                       have the simulator write its inputs into the kept ones: sleepers, starts, broadcasts, words of several workers, several plans, locks by name
 #
-# ARCHIVE and INCLUDE as for tests/hosts.sh. Running and keeping need clang
+# ARCHIVE has the library's calls (default target/staticlib/libtampermauve.a,
+# `twin` for the engine of bench/twin.c under the library's names); INCLUDE is
+# the folder of tampermauve.h (default include). Running and keeping need clang
 # with libFuzzer. New inputs go to build/fuzz/found, texts to build/fuzz/found-texts.
 # tests/fuzz/corpus.sum and tests/fuzz/texts.sum have the count of the kept ones
 # and a sum of their names and contents, so that none is lost or emptied unseen.
