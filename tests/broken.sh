@@ -67,8 +67,8 @@ commands() {
     changed "what the command must print" tests/command.sh 's/moving turns: 26/moving turns: 27/' 'printed: finished, moving turns: 26' make test-command
     changed "a text that is told with another column" command/scan.c 's/(unsigned)(at - begin) + 1}/(unsigned)(at - begin)}/' 'things are not as expected' make test-command
     changed "a page without the last record" command/tables.c 's/i < trace->given; i++/i + 1 < trace->given; i++/' 'has another log' make test-command
-    changed "a text with two registers exchanged" command/records.c 's/"add", "$q to $r"/"add", "$r to $q"/' ' failures' make test-text
-    changed "a label one step too far" command/assemble.c 's/label->number - skip->number - 1;/label->number - skip->number;/' ' failures' make test-text
+    changed "a text with two registers exchanged" command/records.c 's/"add", "$q to $r"/"add", "$r to $q"/' 'FAILED: add r2 to r1' make test-text
+    changed "a label one step too far" command/assemble.c 's/label->number - skip->number - 1;/label->number - skip->number;/' 'FAILED: ' make test-text
     changed "a text of the corpus" tests/fuzz/texts/text-race 's/race/rcae/' 'not those of tests/fuzz/texts.sum' make test-fuzz
     changed "the plan of README.md" README.md 's/^    set r1 9$/    set r1 8/' '> word at 0: 8, before 0' make test-readme
 }
