@@ -134,19 +134,11 @@ static void begin_record(struct statement *s, unsigned op)
     s->in_block = is_step(&s->record);
 }
 
-static bool has_word(const struct line *line, size_t from, const char *word)
-{
-    size_t i = from;
-    while (i < line->count && !token_is(&line->tokens[i], word))
-        i++;
-    return i < line->count;
-}
-
-/* Tries each form that begins with the word. A barrier that has a size is no step. */
+/* Tries each form that begins with the word. A barrier with its size is no step, also where its number does not fit. */
 static bool read_form(struct reading *r, const struct token *word)
 {
     size_t behind = r->at + 1;
-    bool sized = has_word(r->line, behind, "size");
+    bool sized = behind + 1 < r->line->count && token_is(&r->line->tokens[behind + 1], "size");
     for (size_t i = 0; i < form_count; i++) {
         if (!token_is(word, forms[i].word) || (sized && forms[i].op == TAMPERMAUVE_OP_BARRIER))
             continue;
@@ -169,9 +161,12 @@ static const struct {
 static bool gives_name(const struct line *line, size_t from)
 {
     bool step = false;
+    for (size_t i = from; i < line->count; i++)
+        if (token_is(&line->tokens[i], "="))
+            return true;
     for (size_t i = 0; i < form_count; i++)
         step = step || token_is(&line->tokens[from], forms[i].word);
-    return !step || has_word(line, from, "=");
+    return !step;
 }
 
 /* Reads `NAME = NUMBER`, and for a barrier its size, whose record it is as well. */

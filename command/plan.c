@@ -23,7 +23,8 @@ static bool ends_in_steps(const char *path)
 static enum status assembled(struct plan *plan, const struct bytes *text)
 {
     struct bytes complaints = {0};
-    bool fine = assemble(plan->name, (const char *)text->at, text->length, &plan->file, &plan->lines, &complaints);
+    const char *from = text->length > 0 ? (const char *)text->at : "";
+    bool fine = assemble(plan->name, from, text->length, &plan->file, &plan->lines, &complaints);
     if (complaints.length > 0)
         fwrite(complaints.at, 1, complaints.length, stderr);
     bytes_free(&complaints);

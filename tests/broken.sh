@@ -174,6 +174,7 @@ conventions() {
     changed "a number without a name" crates/plan/src/check.rt 's/FILE_LIMIT < bytes/7280 < bytes/' 'a number without a name' make test-conventions
     changed "an op without its name" crates/worker/src/lib.rt 's/if op == ops::LOAD/if op == 2/' 'an op, a fate or an outcome without its name' make test-conventions
     changed "an op that the header numbers otherwise" include/tampermauve.h 's/OP_WAIT 34u/OP_WAIT 43u/' "not the header's" make test-conventions
+    changed "an op without a text" command/records.c '/TAMPERMAUVE_OP_EXIT, "exit"/d' 'has no text in command/records.c, or the other way round: OP_EXIT' make test-conventions
     changed "an op that the definitions number otherwise" crates/protocol/specs/Ops.antt 's/opWait = 34/opWait = 43/' "not the definitions'" make test-conventions
     changed "a limit that the header has otherwise" include/tampermauve.h 's/STEPS_LIMIT 128u/STEPS_LIMIT 127u/' 'a limit of the code' make test-conventions
     changed "a limit that the definitions have otherwise" crates/protocol/specs/Format.antt 's/skipLimit = 127/skipLimit = 126/' 'a limit of the definitions' make test-conventions

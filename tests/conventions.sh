@@ -5,7 +5,7 @@
 #   - no number from 3 up stands in the code outside of a constant, a contract or the one match that numbers the refusals, whose names are the
 #     enum's, but for those of `meant` below, each with its reason; ops, fates and outcomes that are 0, 1 or 2 have their names too;
 #   - whether a step synchronises is decided in one place, crates/format/src/points.rt, which has a case for each op of the table, in its order;
-#   - an op has one number and one word in the code, the definitions and the header, and so have the limits of the format;
+#   - an op has one number and one word in the code, the definitions and the header, and so have the limits of the format; each op of the header has its text;
 #   - no line is longer than 200 characters.
 #
 #     tests/conventions.sh [ROOT]      ROOT stands for the repository
@@ -123,6 +123,8 @@ ops=$(in_code ops OP_ | sort)
 complain "ops" < <([ -n "$ops" ] || echo "none in crates/format/src/ops.rt")
 complain "an op of the code that is not the header's, or the other way round" < <(comm -3 <(echo "$ops") <(in_header | grep '^OP_' | sort))
 complain "an op of the code that is not the definitions', or the other way round" < <(comm -3 <(echo "$ops") <(in_definitions | sort))
+complain "an op of the header that has no text in command/records.c, or the other way round" < <(
+    comm -3 <(in_header | sed -n 's/^\(OP_[A-Z_]*\) .*/\1/p' | sort) <(sed -nE 's/^    \{TAMPERMAUVE_(OP_[A-Z_]+), ".*/\1/p' command/records.c | sort))
 complain "a limit of the code that is not the header's" < <(comm -23 <(in_code limits '' | sort) <(in_header | sort))
 complain "a limit of the definitions that is not the code's" < <(comm -13 <(in_code limits '' | sort) <(limits_defined | sort))
 

@@ -48,7 +48,7 @@ crowd() {
             if (worker < 3) { step("lock 2"); step("wait " worker); step("unlock 2") }
             for (turn = 0; steps < 118; turn++) {
                 kind = (turn * 7 + worker * 3) % 61
-                if (kind < 1) stores(turn)
+                if (kind < 1 && ++stored <= 4) stores(turn)
                 else if (kind < 6) told(turn)
                 else if (kind < 9) nested()
                 else if (kind < 10) step("start " (worker + 1) % 8)

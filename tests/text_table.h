@@ -128,6 +128,8 @@ static const struct sentence table_of_sentences[] = {
     {"workers that fill a byte", TEXT("workers 0xFF\n"), {{1, 255, 0, 0, 0}}},
     {"a size", TEXT("workers 2\nbarrier 3 size 2\n"), {{1, 2, 0, 0, 0}, {2, 0, 1, 3, 2}}},
     {"a size with a name", TEXT("workers 2\nbarrier gate = 3 size 2\n"), {{1, 2, 0, 0, 0}, {2, 0, 1, 3, 2}}},
+    {"names that are words of statements", TEXT("barrier size = 3 size 2\naddress at = 12\nworker 0\nbarrier size\nstore r1 at at\n"),
+     {{1, 0, 1, 3, 2}, {4, 0, 37, 0, 3}, {5, 0, 18, 1, 12}}},
     {"= is a word by itself", TEXT("barrier gate=3 size 2\naddress a=1\nlock b =2\ncondition c= 3\n"), {{1, 0, 1, 3, 2}}},
     {"a size that fills its fields", TEXT("barrier 255 size 65535\nbarrier z = 0xFF size 0xFFFF\n"),
      {{1, 0, 1, 255, 65535}, {2, 0, 1, 255, 65535}}},
