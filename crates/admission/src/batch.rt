@@ -16,7 +16,7 @@ pub const PLANS_LIMIT: usize = 40;
 pub const LENGTH_BYTES: usize = 4;
 
 // The lengths of the buffers.
-#[derive(Drop)]
+#[derive(Clone, Copy)]
 pub struct BatchLengths {
     pub files: usize,
     pub lengths: usize,

@@ -1,4 +1,6 @@
 // Whether a call is admitted: a run, and a call with many plans.
+#![tactic(auto)]
+
 pub mod batch;
 pub mod run;
 

@@ -17,7 +17,7 @@ use plan::check::{Layout, check};
 pub const TURNS_LIMIT: usize = 65535;
 
 // The lengths of the lent buffers.
-#[derive(Drop)]
+#[derive(Clone, Copy)]
 pub struct Lengths {
     pub memory: usize,
     pub log: usize,
@@ -26,7 +26,7 @@ pub struct Lengths {
 }
 
 // The number for C, and the layout of a file that is admitted.
-#[derive(Drop)]
+#[derive(Clone, Copy)]
 pub struct Admitted {
     pub code: u32,
     pub layout: Layout,

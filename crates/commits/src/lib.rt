@@ -1,5 +1,7 @@
 // A worker's commit: shared memory gets what the worker changed, and the sum of shared memory's words is moved by as much. A page is
 // committed block by block, and where no byte of a block differs from its twin neither memory nor the sum is looked at.
+#![tactic(auto)]
+
 pub mod sum;
 
 ghost use Rattle.std.specs.Prelude.{◌≡◌, ◌+◌, ◌<◌, ◌≤◌, length, set};

@@ -8,7 +8,7 @@ use pages::MEMORY_LENGTH;
 use words::word_at;
 
 // A stretch of a page whose words are summed at once.
-#[derive(Drop)]
+#[derive(Clone, Copy)]
 pub struct Block;
 
 impl Block {

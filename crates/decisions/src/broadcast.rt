@@ -18,7 +18,7 @@ use queue::Queue;
 use rules::ruling::Uncommitted;
 
 // Of those who wait: those who are woken, and those who wait on.
-#[derive(Drop)]
+#[derive(Clone, Copy)]
 pub struct Roused {
     pub woken: Queue,
     pub left: Queue,

@@ -11,7 +11,7 @@ use format::limits::{BARRIER_COUNT, WORKERS_LIMIT};
 use format::ops;
 use rules::ruling::{Uncommitted, rule};
 
-#[derive(Drop)]
+#[derive(Clone, Copy)]
 pub struct Decision {
     pub bytes: Uncommitted,
     pub held: u64,

@@ -13,7 +13,7 @@ use queue::Queue;
 use rules::ruling::{Goes, Ruling};
 
 // This round's list, the next one's, and those who wait.
-#[derive(Drop)]
+#[derive(Clone, Copy)]
 pub struct Lists {
     pub list: Queue,
     pub next: Queue,

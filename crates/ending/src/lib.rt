@@ -1,4 +1,6 @@
 // The end of a run: what it leaves in the lent buffers.
+#![tactic(auto)]
+
 ghost use Rattle.std.specs.Prelude.{◌≡◌, ◌≤◌};
 ghost use Rattle.protocol.specs.Format.{workers_limit};
 ghost use Rattle.queue.specs.List.{list_of};

@@ -1,4 +1,6 @@
 // The engine: the moves of the workers, and a list of turns or a run to the end.
+#![tactic(auto)]
+
 pub mod hold;
 pub mod onward;
 pub mod own;

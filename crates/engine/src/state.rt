@@ -5,7 +5,7 @@ use journal::report::Counts;
 use plan::decode::Record;
 
 // The lists, how many of the round's list are still away from the fence, what is counted, and the sum of shared memory's words.
-#[derive(Drop)]
+#[derive(Clone, Copy)]
 pub struct Schedule {
     pub lists: Lists,
     pub away: u64,
@@ -14,7 +14,7 @@ pub struct Schedule {
 }
 
 // The turn at which a list of turns stands, the moves made up to it, and the step of the worker that it names.
-#[derive(Drop)]
+#[derive(Clone, Copy)]
 pub struct Reached {
     pub turn: usize,
     pub moves: u64,
@@ -22,7 +22,7 @@ pub struct Reached {
 }
 
 // What a list of turns leaves beside the bytes: the schedule, and the fates by their codes.
-#[derive(Drop)]
+#[derive(Clone, Copy)]
 pub struct Played {
     pub schedule: Schedule,
     pub fates: [u64; WORKERS_LIMIT],

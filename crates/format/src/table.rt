@@ -7,7 +7,7 @@ use crate::{limits, ops};
 
 // An op, the largest register, and the smallest and the largest number. All are of one width: with padding between them the rows are made part
 // by part.
-#[derive(Drop)]
+#[derive(Clone, Copy)]
 pub struct Row {
     pub op: u16,
     pub registers: u16,

@@ -1,4 +1,6 @@
 // The log and the report as bytes.
+#![tactic(auto)]
+
 pub mod ends;
 pub mod log;
 pub mod report;

@@ -38,7 +38,7 @@ const SHOWN_ASLEEP: u8 = 5;
 const NO_WORKER: u8 = 255;
 
 // What a run counts: the turns that moved, the rounds that are completed, the records of the log.
-#[derive(Drop)]
+#[derive(Clone, Copy)]
 pub struct Counts {
     pub moves: u64,
     pub rounds: u64,

@@ -1,4 +1,6 @@
 // A plan's listing: its run from zero memory, as lines of text.
+#![tactic(auto)]
+
 mod run;
 mod turns;
 
@@ -19,7 +21,7 @@ use words::word_at;
 pub const TEXT_ROOM: usize = RECORD_LINE_LIMIT * ENTRIES_LIMIT + END_LINE_LIMIT;
 
 // What tampermauve_check returns, and how long the text is.
-#[derive(Drop)]
+#[derive(Clone, Copy)]
 pub struct Written {
     pub code: u32,
     pub length: usize,

@@ -1,4 +1,6 @@
 // Lists the plan file on standard input.
+#![tactic(auto)]
+
 use format::limits::FILE_LIMIT;
 use libc::STDIN_FILENO;
 use listed::list;

@@ -1,5 +1,7 @@
 // The set of a worker's locks as one number: 2 ^ lock for each of them, and 65,536 for each as well. Empty is 0, and the size stands above
 // the marks, so that neither is searched for.
+#![tactic(auto)]
+
 ghost use Rattle.std.specs.Prelude.{ℕ, ◌≤◌, true, false, ◌≡◌, List, ◌∷◌, length};
 ghost use Rattle.protocol.specs.Format.{lock_limit};
 ghost use Rattle.protocol.specs.Rounds.{member, remove};

@@ -1,4 +1,6 @@
 // A worker's next step, and its own steps on the lent bytes.
+#![tactic(auto)]
+
 ghost use Rattle.std.specs.Prelude.{◌≡◌, ◌*◌, ◌<◌, ◌≤◌, length};
 ghost use Rattle.protocol.specs.Ops.{op_load, op_store};
 ghost use Rattle.protocol.specs.Format.{workers_limit, record_length, records_limit, steps_limit, address_limit};

@@ -1,5 +1,7 @@
 // Page copies with their twins, in bytes that the caller lends. `work` holds, for each worker and each page, a working copy and
 // then its twin. A slot is a worker's place for one page, Page::COUNT × worker + page, and `copied` marks the slots in use.
+#![tactic(auto)]
+
 ghost use Rattle.std.specs.Prelude.{◌≡◌, List, ℕ, ◌+◌, ◌*◌, ◌<◌, ◌≤◌, ◌/◌, ◌%◌, length, drop};
 ghost use Rattle.std.proofs.Math.Seq.{paste};
 ghost use Rattle.protocol.specs.Format.{workers_limit, address_limit};
@@ -10,7 +12,7 @@ ghost use Rattle.pages.specs.Copies.{Lent, slot_count, slot_copy, copies_in, Slo
 use format::limits::WORKERS_LIMIT;
 use words::{high_byte, low_byte, word};
 
-#[derive(Drop)]
+#[derive(Clone, Copy)]
 pub struct Page;
 
 impl Page {

@@ -3,7 +3,7 @@ ghost use Rattle.std.specs.Prelude.{◌≡◌};
 ghost use Rattle.protocol.specs.Refusals.{number_of, code_of};
 ghost use Rattle.plan.specs.Answer.{refusal_of, verdict_of, Indexed};
 
-#[derive(Drop)]
+#[derive(Clone, Copy)]
 pub enum Refusal {
     BadLength,
     BadMark,
@@ -23,14 +23,14 @@ pub enum Refusal {
 }
 
 // What one rule says: the reading goes on, or it ends with a refusal.
-#[derive(Drop)]
+#[derive(Clone, Copy)]
 pub enum Rule {
     Holds,
     Refuses(Refusal),
 }
 
 // Accepted, or a refusal with the index of its record.
-#[derive(Drop)]
+#[derive(Clone, Copy)]
 pub enum Verdict {
     Accepted,
     Refused(Refusal, usize),

@@ -9,7 +9,7 @@ use format::limits::{BARRIER_COUNT, RECORD_LENGTH, SIZE_LIMIT};
 use format::ops;
 
 // The sizes that the barrier records give, and the index of the first record behind them; or the refusal.
-#[derive(Drop)]
+#[derive(Clone, Copy)]
 pub struct Barriers {
     pub verdict: Verdict,
     pub sizes: [u8; BARRIER_COUNT],

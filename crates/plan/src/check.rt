@@ -16,7 +16,7 @@ use format::ops;
 
 // What a run needs of an accepted file: the number of workers, the barriers' sizes, where each worker's steps begin, and the codes of the fates
 // at first.
-#[derive(Drop)]
+#[derive(Clone, Copy)]
 pub struct Layout {
     pub workers: u8,
     pub sizes: [u8; BARRIER_COUNT],
@@ -24,7 +24,7 @@ pub struct Layout {
     pub fates: [u64; WORKERS_LIMIT],
 }
 
-#[derive(Drop)]
+#[derive(Clone, Copy)]
 pub struct Checked {
     pub verdict: Verdict,
     pub layout: Layout,

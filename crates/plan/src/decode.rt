@@ -6,7 +6,7 @@ ghost use Rattle.plan.specs.Answer.{body_of, decoded_of};
 use format::limits::{PLAN_MARK, RECORD_NUMBER, RECORD_OP, RECORD_REGISTER, RECORD_WORKER};
 use words::word;
 
-#[derive(Drop)]
+#[derive(Clone, Copy)]
 pub struct Record {
     pub worker: u8,
     pub op: u8,
@@ -14,7 +14,7 @@ pub struct Record {
     pub number: u16,
 }
 
-#[derive(Drop)]
+#[derive(Clone, Copy)]
 pub enum Decoded {
     Read(Record),
     Unmarked,

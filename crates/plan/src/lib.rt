@@ -1,4 +1,6 @@
 // The plan file: its decoder, the check, and where each worker's steps begin.
+#![tactic(auto)]
+
 pub mod answer;
 pub mod barriers;
 pub mod check;

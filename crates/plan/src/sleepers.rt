@@ -11,7 +11,7 @@ use format::limits::{RECORD_LENGTH, WORKERS_LIMIT};
 use format::ops;
 
 // The index of the first record behind the sleep records; or the refusal.
-#[derive(Drop)]
+#[derive(Clone, Copy)]
 pub struct Sleepers {
     pub verdict: Verdict,
     pub next: usize,

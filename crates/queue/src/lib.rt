@@ -1,4 +1,6 @@
 // An ordered list of at most eight worker numbers, each below 16, in three numbers. Callers know it by its list alone.
+#![tactic(auto)]
+
 ghost use Rattle.std.specs.Prelude.{◌+◌, ◌≤◌, ◌<◌, true, false, not, ◌≡◌, [], ◌∷◌, ◌++◌, eqb, length, get_or, drop};
 ghost use Rattle.protocol.specs.Format.{workers_limit, up_to};
 ghost use Rattle.protocol.specs.Rounds.{keep, without};
@@ -8,7 +10,7 @@ ghost use Rattle.queue.specs.List.{list_of, Good, Holds, Below, matches};
 use format::limits::WORKERS_LIMIT;
 
 // Base-16 digits, the first worker lowest; unit is 16 to the power of len.
-#[derive(Drop)]
+#[derive(Clone, Copy)]
 pub struct Queue {
     pub digits: u64,
     pub unit: u64,

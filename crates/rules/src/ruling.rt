@@ -27,7 +27,7 @@ pub const OUTCOME_FAILED: u8 = 254;
 pub const OUTCOME_NONE: u8 = 255;
 
 // What becomes of the holder's copies.
-#[derive(Drop)]
+#[derive(Clone, Copy)]
 pub enum Uncommitted {
     Kept,
     Committed,
@@ -35,7 +35,7 @@ pub enum Uncommitted {
 }
 
 // Where the holder goes. One that leaves has a fate, by its code.
-#[derive(Drop)]
+#[derive(Clone, Copy)]
 pub enum Goes {
     Keeps,
     Gives,
@@ -45,7 +45,7 @@ pub enum Goes {
 // queued: those who wait where the step says, if its rule asks for them, or the sleeper that it starts. wakes: the first of them is woken;
 // joins: all of them join the next list; starts: the sleeper does. A start has a mark of its own: where it shared that of a full barrier, the
 // compiler no longer told the other steps apart by it, and they took up to a third more instructions.
-#[derive(Drop)]
+#[derive(Clone, Copy)]
 pub struct Ruling {
     pub bytes: Uncommitted,
     pub held: u64,

@@ -1,4 +1,6 @@
-// The host calls.
+// The host calls, which crate `tampermauve_c` exports to C.
+#![tactic(auto)]
+
 mod each;
 mod perform;
 
@@ -16,8 +18,7 @@ use plan::answer::code;
 use plan::check::check;
 
 // ACCEPTED for a plan file that is accepted, else the refusal + 256 × the index of its record.
-#[unsafe(no_mangle)]
-pub extern "C" fn tampermauve_check(file: &[u8]) -> u32
+pub fn tampermauve_check(file: &[u8]) -> u32
     ensures { result ≡ check_code file.now }
 {
     let checked = check(file);
@@ -26,8 +27,7 @@ pub extern "C" fn tampermauve_check(file: &[u8]) -> u32
 }
 
 // Plays the turns. ACCEPTED for a run that is accepted, else as tampermauve_check, with no byte changed.
-#[unsafe(no_mangle)]
-pub extern "C" fn tampermauve_run(
+pub fn tampermauve_run(
     file: &[u8],
     turns: &[u8],
     memory: &mut [u8],
@@ -56,8 +56,7 @@ pub extern "C" fn tampermauve_run(
 }
 
 // Runs so many plans, each to its end, and gives an answer for each. ACCEPTED, or the refusal of the whole call, with no byte changed.
-#[unsafe(no_mangle)]
-pub extern "C" fn tampermauve_run_all(
+pub fn tampermauve_run_all(
     count: usize,
     files: &[u8],
     lengths: &[u8],

@@ -1,4 +1,6 @@
 // Text in a lent slice: numbers, lines, and the lines of a listing. Each function writes from a place on and returns the place behind what it wrote.
+#![tactic(auto)]
+
 pub mod lines;
 
 ghost use Rattle.std.specs.Prelude.{◌≡◌, [], ◌∷◌, ◌+◌, ◌≤◌, ◌<◌, length, drop};

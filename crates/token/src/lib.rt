@@ -1,4 +1,6 @@
 // Who can move: at the fence everyone who has not arrived, behind it the holder alone.
+#![tactic(auto)]
+
 pub mod passes;
 
 ghost use Rattle.std.specs.Prelude.{true, false, ◌≡◌, ◌+◌, ◌-◌, ◌≤◌, ◌<◌, length, get_or};
@@ -10,7 +12,7 @@ use format::limits::WORKERS_LIMIT;
 use queue::Queue;
 
 // The round's list and the next one's, how many of the list have not arrived, and the rounds that are completed.
-#[derive(Drop)]
+#[derive(Clone, Copy)]
 pub struct Round {
     pub list: Queue,
     pub next: Queue,

@@ -1,5 +1,7 @@
 // Lists each plan of the file plans.data, and sums up the memory that it leaves. The file is the count of plans and then, for each,
 // the length of its plan file and its bytes; count and lengths are two bytes, low byte first.
+#![tactic(auto)]
+
 mod memory;
 
 ghost use Rattle.std.specs.Prelude.{◌≤◌, length};
@@ -11,7 +13,7 @@ use pages::MEMORY_LENGTH;
 use text::{write_bytes, write_line};
 use words::word;
 
-#[derive(Drop)]
+#[derive(Clone, Copy)]
 enum Number {
     Read(u16),
     CutShort,

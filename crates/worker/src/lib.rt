@@ -1,4 +1,6 @@
 // A worker's private record, its own steps, and what a synchronising step makes of it.
+#![tactic(auto)]
+
 ghost use Rattle.std.specs.Prelude.{◌≡◌, ◌+◌, ◌<◌, ◌≤◌, slice_index};
 ghost use Rattle.protocol.specs.Ops.{op_add, op_subtract};
 ghost use Rattle.protocol.specs.Format.{register_count, steps_limit};
@@ -7,7 +9,7 @@ ghost use Rattle.worker.specs.Private.{registers_of, held_as, Replaced, result_o
 use format::ops;
 
 // held is the set of its locks as one number (`locks`); the registers are one number's digits to base 65536, register 0 lowest.
-#[derive(Drop)]
+#[derive(Clone, Copy)]
 pub struct Worker {
     pub place: usize,
     pub held: u64,
@@ -15,20 +17,20 @@ pub struct Worker {
 }
 
 // What an own step leaves to its caller: nothing, or a number to store.
-#[derive(Drop)]
+#[derive(Clone, Copy)]
 pub enum Outcome {
     Private,
     Stores(u16),
 }
 
-#[derive(Drop)]
+#[derive(Clone, Copy)]
 pub struct Moved {
     pub worker: Worker,
     pub outcome: Outcome,
 }
 
 // What a synchronising step leaves to its caller: the outcome that the log shows.
-#[derive(Drop)]
+#[derive(Clone, Copy)]
 pub struct Synchronised {
     pub worker: Worker,
     pub outcome: u8,

@@ -1,5 +1,7 @@
 // The log writer: it carries the lent log and its fill mark, the number of records that the log has. A function that takes or
 // makes one is proved by a walk of its MIR, so there are two; `append_at`, which writes the bytes, is covered.
+#![tactic(auto)]
+
 ghost use Rattle.writer.specs.Appended.{Appending, Appended};
 
 use journal::log::ENTRY_LENGTH;
