@@ -1,6 +1,7 @@
 // A plan's listing: its run from zero memory, as lines of text.
 #![tactic(auto)]
 
+pub mod input;
 mod run;
 mod turns;
 
@@ -13,7 +14,6 @@ use crate::run::run_listed;
 use admission::ACCEPTED;
 use journal::log::{ENTRIES_LIMIT, LOG_LENGTH};
 use journal::report::{REPORT_LENGTH, REPORT_RECORDS};
-use libc::STDOUT_FILENO;
 use text::lines::{END_LINE_LIMIT, RECORD_LINE_LIMIT, write_end, write_log, write_refusal};
 use words::word_at;
 
@@ -47,8 +47,8 @@ pub fn write_listing(file: &[u8], memory: &mut [u8], text: &mut [u8]) -> Written
     Written { code, length }
 }
 
-// Prints a listing. Returns what tampermauve_check does, and leaves an accepted plan's memory.
-pub fn list(file: &[u8], memory: &mut [u8]) -> u32
+// Prints a listing. Returns what tampermauve_check does, and leaves an accepted plan's memory, whether or not all of it could be printed.
+pub fn list(rt: &impl Print, file: &[u8], memory: &mut [u8]) -> u32
     requires { memory.old ≡ replicate memory_length 0 }
     ensures code { result ≡ check_code file.now }
     ensures same_memory { result ≡ 0 → memory.new ≡ (listed_run file.now).memory }
@@ -56,6 +56,6 @@ pub fn list(file: &[u8], memory: &mut [u8]) -> u32
     let mut text = [0u8; TEXT_ROOM];
     let written = write_listing(file, memory, &mut text);
     let length = written.length;
-    io::write_all(STDOUT_FILENO, &text[..length]);
+    let _printed = rt.write_all(&text[..length]).is_ok();
     written.code
 }

@@ -2,16 +2,16 @@
 #![tactic(auto)]
 
 use format::limits::FILE_LIMIT;
-use libc::STDIN_FILENO;
+use listed::input::read_full;
 use listed::list;
 use pages::MEMORY_LENGTH;
 
 // What is longer than the longest plan file may be cut off here: it is too long still.
 const FILE_ROOM: usize = FILE_LIMIT + 1;
 
-fn main() {
+fn main(rt: HostRuntime) {
     let mut file = [0u8; FILE_ROOM];
-    let length = io::read_full(STDIN_FILENO, &mut file);
+    let length = read_full(&mut rt.stdin(), &mut file);
     let mut memory = [0u8; MEMORY_LENGTH];
-    list(&file[..length], &mut memory);
+    list(&rt, &file[..length], &mut memory);
 }
