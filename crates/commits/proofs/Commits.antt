@@ -12,20 +12,20 @@ use Rattle.protocol.specs.Pages.{page_size, page_count, Copy, absent, Copies, no
 use Rattle.protocol.proofs.Bools.{or_left, or_right}
 use Rattle.protocol.proofs.Lists.{get_or-copies}
 use Rattle.pages.specs.Copies.{part, slot_of, copy_at, twin_at, slot_copy}
-use Rattle.pages.proofs.Parts.{get_d_part}
+use Rattle.pages.proofs.Parts.{get_or-part}
 use Rattle.pages.proofs.Slots.{in_use}
 use Rattle.commits.specs.Blocks.{left_of, BytesWritten}
 use Rattle.commits.specs.Committing.{any_copied}
 
 -- ---- the first elements of a list, and one more of them
 
-get_d_past : {A : Type 0} (d : A) (l : List A) (i o : ℕ) → i ≤ o → get_or (take i l) o d ≡ d
-get_d_past d l i o h = let short : length (take i l) ≤ o = simp length-take (omega arith) in get_or-eq_default (take i l) d short
+get_or-past : {A : Type 0} (d : A) (l : List A) (i o : ℕ) → i ≤ o → get_or (take i l) o d ≡ d
+get_or-past d l i o h = let short : length (take i l) ≤ o = simp length-take (omega arith) in get_or-eq_default (take i l) d short
 
 get_or-more : {A : Type 0} (d : A) (l : List A) (i o : ℕ) → (o ≡ i → ⊥) → get_or (take i l) o d ≡ get_or (take (i + 1) l) o d
 get_or-more d l i o ne = elim (dec_lt o i) [
   | yes h ↦ get_or-take i l o d h ∙ sym (get_or-take (i + 1) l o d (omega arith))
-  | no h ↦ get_d_past d l i o (omega arith) ∙ sym (get_d_past d l (i + 1) o (omega arith))
+  | no h ↦ get_or-past d l i o (omega arith) ∙ sym (get_or-past d l (i + 1) o (omega arith))
 ]
 
 -- ---- a commit, byte by byte
@@ -122,8 +122,8 @@ module _ (p slot : ℕ) (h : p < page_count) (marks : List Bool) (work memory me
       (λ (n : ℕ). get_or memory' n 0 ≡ left_of (get_or work (copy_at slot + offset_of j) 0) (get_or work (twin_at slot + offset_of j) 0) (get_or memory n 0))
       place
       (written.here (offset_of j) o)
-      ∙ ap (λ (b : ℕ). left_of b (get_or work (twin_at slot + offset_of j) 0) (get_or memory j 0)) (sym (get_d_part (copy_at slot) work (offset_of j) o))
-      ∙ ap (λ (t : ℕ). left_of (get_or (part (copy_at slot) work) (offset_of j) 0) t (get_or memory j 0)) (sym (get_d_part (twin_at slot) work (offset_of j) o))
+      ∙ ap (λ (b : ℕ). left_of b (get_or work (twin_at slot + offset_of j) 0) (get_or memory j 0)) (sym (get_or-part (copy_at slot) work (offset_of j) o))
+      ∙ ap (λ (t : ℕ). left_of (get_or (part (copy_at slot) work) (offset_of j) 0) t (get_or memory j 0)) (sym (get_or-part (twin_at slot) work (offset_of j) o))
       ∙ ap (λ (k : Copy). committed k (offset_of j) (get_or memory j 0)) (sym (in_use marks work slot on))
 
   away : (j : ℕ) → (page_of j ≡ p → ⊥) → (j < page_size * p) ⊎ (page_size * p + page_size ≤ j)
@@ -150,7 +150,7 @@ module _ (copies : Copies) (memory : List ℕ) (p : ℕ) (h : p < page_count) wh
       here j e b =
           ap (λ (s : ℕ). committed (copy_of copies p) (offset_of j) s)
           (commit-at (take p copies) memory j b
-          ∙ ap (λ (k : Copy). committed k (offset_of j) (get_or memory j 0)) (get_d_past absent copies p (page_of j) (omega arith)))
+          ∙ ap (λ (k : Copy). committed k (offset_of j) (get_or memory j 0)) (get_or-past absent copies p (page_of j) (omega arith)))
           ∙ ap (λ (k : Copy). committed k (offset_of j) (get_or memory j 0))
           (sym (get_or-take (p + 1) copies (page_of j) absent (omega arith) ∙ ap (λ (q : ℕ). copy_of copies q) e))
 

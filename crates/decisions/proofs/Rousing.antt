@@ -1,6 +1,6 @@
 -- The laws of waking all who wait on a condition: two scans of those who wait, with the fates of the woken set on the way.
 -- Assumes nothing.
-use Prim.Native.Nat.{ℕ, ◌+◌, ◌≤◌, ◌<◌}
+use Prim.Native.Nat.{ℕ, ◌≤◌, ◌<◌}
 use native.Mathlib.Omega.{arith}
 use borrow.Author.Tests.{eq-eqb, ne_eqb, not-false}
 use mathlib.Core.Bool.{Bool, true, false, not}

@@ -18,7 +18,7 @@ use Rattle.protocol.specs.Rounds.{without, freed, entry_of, apply, new_round}
 use Rattle.protocol.specs.Turns.{workers_of, is_first, closing, closed, move}
 use Rattle.protocol.specs.Sum.{sum_of, Change, moved_by, settled_change, change_by, move_change}
 use Rattle.protocol.specs.Report.{entry_length, log_bytes}
-use Rattle.protocol.specs.Calls.{work_length, memory_length, log_length}
+use Rattle.protocol.specs.Calls.{memory_length, log_length}
 use Rattle.protocol.proofs.Counting.{freed-length, freed-at}
 use Rattle.protocol.proofs.Sums.{move-moves}
 use Rattle.pages.specs.Copies.{copies_in, slot_count}

@@ -7,7 +7,6 @@ use mathlib.Core.Path.{◌≡◌, refl, sym, ap, ◌∙◌, subst⁻¹}
 use mathlib.Core.List.{List}
 use lib.ListN.{length, get_or, set, length-set}
 use lib.Seq.{get_or-set_same, get_or-set_other}
-use Rattle.protocol.specs.Calls.{memory_length, work_length}
 use Rattle.protocol.specs.Format.{Own, Step, synchronises, plan_of}
 use Rattle.protocol.specs.Steps as steps
 use Rattle.protocol.specs.Steps.{new_worker, fate_as, own_step}

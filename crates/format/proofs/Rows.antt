@@ -9,7 +9,7 @@ use lib.Dec.{eqb}
 use lib.ListN.{length, get_or, get_or-map}
 use Rattle.protocol.specs.Format as format
 use Rattle.protocol.specs.Format.{table, row_in, count_from}
-use Rattle.protocol.proofs.Lists.{get_d_any, get_or-counted}
+use Rattle.protocol.proofs.Lists.{get_or-any, get_or-counted}
 use Rattle.format.specs.Table.{limits_of, limits, limits_in, limits_for, place_in}
 use Rattle.format.specs.declared.table.Row.{Row}
 
@@ -41,7 +41,7 @@ pub row_at : (o : ℕ) (d : Row) → place_in table o < 15 → limits_for o ≡ 
 unfolding limits
 row_at o d h =
     at_place table o
-    ∙ (get_d_any (map (λ x. some (limits_of x)) table) (place_in table o) none (some d) h
+    ∙ (get_or-any (map (λ x. some (limits_of x)) table) (place_in table o) none (some d) h
     ∙ get_or-map {A = Row} some limits (place_in table o) d)
 
 -- no place is behind the rows

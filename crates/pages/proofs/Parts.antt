@@ -16,8 +16,8 @@ use Rattle.pages.specs.Copies.{part}
 abbrev pub Disjoint : ℕ → ℕ → ℕ → Type 0
 Disjoint at n b = (at + n ≤ b) ⊎ (b + page_size ≤ at)
 
-pub get_d_part : (b : ℕ) (l : List ℕ) (i : ℕ) → i < page_size → get_or (part b l) i 0 ≡ get_or l (b + i) 0
-get_d_part b l i h = get_or-take page_size (drop b l) i 0 h ∙ get_or-drop b l i 0
+pub get_or-part : (b : ℕ) (l : List ℕ) (i : ℕ) → i < page_size → get_or (part b l) i 0 ≡ get_or l (b + i) 0
+get_or-part b l i h = get_or-take page_size (drop b l) i 0 h ∙ get_or-drop b l i 0
 
 -- ---- a store
 

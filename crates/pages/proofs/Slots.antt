@@ -12,7 +12,7 @@ use Rattle.protocol.specs.Calls.{memory_length, work_length}
 use Rattle.protocol.specs.Pages.{page_size, page_count, page, Copy, absent, copied, Copies, no_copies, page_of, offset_of, copy_of, loaded, load_byte, opened, stored, store_byte, store_word}
 use Rattle.protocol.proofs.Lists.{get_or-copies, length-counted, mapped}
 use Rattle.pages.specs.Copies.{slot_count, part, slot_of, copy_at, twin_at, marked, slot_copy, copy_in, copies_in, SlotHolds, WorkerHolds}
-use Rattle.pages.proofs.Parts.{Disjoint, get_d_part, part-set-here, part-set-apart, part-paste-here, part-paste-apart}
+use Rattle.pages.proofs.Parts.{Disjoint, get_or-part, part-set-here, part-set-apart, part-paste-here, part-paste-apart}
 
 -- ---- what a slot holds
 
@@ -249,7 +249,7 @@ module _ (memory : List ℕ) (marks : List Bool) (work : List ℕ) (w a : ℕ) (
   load-copy e =
       sym
       (ap (λ (k : Copy). loaded k (offset_of a) (get_or memory a 0)) (copies_at marks work w (page_of a) (omega arith) ∙ in_use marks work at_slot e)
-      ∙ get_d_part (copy_at at_slot) work (offset_of a) (omega arith))
+      ∙ get_or-part (copy_at at_slot) work (offset_of a) (omega arith))
 
   pub load-shared : get_or marks at_slot false ≡ false → get_or memory a 0 ≡ load_byte memory (copies_in marks work w) a
   unfolding load_byte

@@ -18,7 +18,7 @@ use Rattle.protocol.specs.Refusals.{sleep_record_rule, operands_outside, step_ru
 use Rattle.protocol.specs.WellFormed.{blank, PlanRecord, BarrierRecord, SleepRecord}
 use Rattle.protocol.specs.Conditions.{NoMark, Before, BarrierAmiss, SleepAmiss, UnknownOp, WorkerAmiss, StepBeyond, OperandOutside, SizeMissing, Test, test, tests_of, record_tests, FirstDue}
 use Rattle.protocol.proofs.Bools.{split, or-holds, or_left, or_right, and_left, and_right}
-use Rattle.protocol.proofs.Records.{one, names}
+use Rattle.protocol.proofs.Records.{names}
 use Rattle.protocol.proofs.Taken.{barrier-no-step, sleep-no-step, plan-record, barrier-record, sleep-record}
 
 pub nothing-due : FirstDue [] accepted

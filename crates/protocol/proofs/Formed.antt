@@ -4,7 +4,6 @@ use mathlib.Core.Bool.{Bool, true, false, cond, ◌&&◌, false≢true}
 use mathlib.Core.Path.{◌≡◌, refl, sym, ap, ◌∙◌, subst, subst⁻¹}
 use mathlib.Core.Logic.{inl, inr, ⊎_elim, ◌↔◌}
 use mathlib.Core.List.{List, [], ◌∷◌, ◌++◌}
-use mathlib.Core.Option.{some}
 use native.Mathlib.Omega.{arith}
 use native.Mathlib.Decide.{ℕ_discrete, dec_lt}
 use lib.Dec.{eqb}
@@ -19,7 +18,7 @@ use Rattle.protocol.specs.WellFormed.{blank, record_at, PlanRecord, BarrierRecor
 use Rattle.protocol.specs.Conditions.{LengthAmiss, NoPlan, BarrierAmiss, SleepAmiss, UnknownOp, WorkerAmiss, StepBeyond, OperandOutside, SizeMissing, SkipBeyond, Test, record_tests, skip_tests}
 use Rattle.protocol.specs.Conditions.{over, file_tests, run_tests, FirstDue}
 use Rattle.protocol.proofs.Bools.{split}
-use Rattle.protocol.proofs.Records.{one, steps_in-append}
+use Rattle.protocol.proofs.Records.{steps_in-append}
 use Rattle.protocol.proofs.Accepted.{accepts, length-ruled, length-records}
 use Rattle.protocol.proofs.Covered.{row-known, start-known}
 use Rattle.protocol.proofs.FirstDue.{check-first, run-first, fitting, misfitting}

@@ -7,10 +7,10 @@ use lib.ListN.{length, get_or, replicate, length-map, get_or-map}
 use Rattle.protocol.specs.Format.{records_from, count_from, up_to}
 
 -- inside a list the default does not matter
-pub get_d_any : {A : Type 0} (l : List A) (i : ℕ) (d e : A) → i < length l → get_or l i d ≡ get_or l i e
-get_d_any [] i d e h = absurd (omega arith)
-get_d_any (x ∷ l) zero d e h = refl
-get_d_any (x ∷ l) (suc i) d e h = get_d_any l i d e (omega arith)
+pub get_or-any : {A : Type 0} (l : List A) (i : ℕ) (d e : A) → i < length l → get_or l i d ≡ get_or l i e
+get_or-any [] i d e h = absurd (omega arith)
+get_or-any (x ∷ l) zero d e h = refl
+get_or-any (x ∷ l) (suc i) d e h = get_or-any l i d e (omega arith)
 
 -- of copies of one value each is that value, and so is what is read past them
 pub get_or-copies : {A : Type 0} (x : A) (n i : ℕ) → get_or (replicate n x) i x ≡ x
@@ -54,7 +54,7 @@ length-counted f k i = length-map (count_from k i) f ∙ length-count_from k i
 
 pub get_or-counted : {A : Type 0} (f : ℕ → A) (d : A) (k i n : ℕ) → n < k → get_or (map f (count_from k i)) n d ≡ f (i + n)
 get_or-counted f d k i n h =
-    get_d_any (map f (count_from k i)) n d (f 0) (let e = length-counted f k i in omega arith)
+    get_or-any (map f (count_from k i)) n d (f 0) (let e = length-counted f k i in omega arith)
     ∙ (get_or-map f (count_from k i) n 0 ∙ ap f (get_or-count_from k i n 0 h))
 
 pub mapped : {A : Type 0} (f : ℕ → A) (k i : ℕ) (d : A) → i < k → get_or (map f (up_to k)) i d ≡ f i

@@ -7,7 +7,7 @@ use mathlib.Core.Bool.{Bool, true, false, cond, not}
 use mathlib.Core.Path.{◌≡◌, refl, ◌∙◌, subst⁻¹}
 use mathlib.Core.List.{List, ◌∷◌, ◌++◌}
 use lib.ListN.{length, get_or, set, length-set, length-append}
-use Rattle.protocol.specs.Format.{Sync, wait, Plan}
+use Rattle.protocol.specs.Format.{Sync, Plan}
 use Rattle.protocol.specs.Steps.{Fate, going, exited, failed, asleep, waiting, Worker, new_worker, fate_as, steps_of}
 use Rattle.protocol.specs.Rounds.{State, worker_at, Goes, keeps, gives, leaves, Ruling, fate_after, has_arrived, arrived_after, after_ruling, stays_in, joins_next}
 use Rattle.protocol.specs.Rounds.{joins_waiting, member, without, freed, apply}

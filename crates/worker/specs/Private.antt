@@ -1,5 +1,5 @@
 -- What joins a worker's record in the code to the definitions of Steps, and what its own steps ensure.
-use Rattle.std.specs.Prelude.{◌≡◌, ℕ, ◌+◌, ◌-◌, ◌*◌, ◌/◌, ◌%◌, ◌^◌, ◌<◌, ◌≤◌, Bool, cond, not, List, [], ◌∷◌, set, ◌==◌, slice_index, slice_set}
+use Rattle.std.specs.Prelude.{◌≡◌, ℕ, ◌+◌, ◌-◌, ◌*◌, ◌/◌, ◌%◌, ◌^◌, ◌<◌, ◌≤◌, Bool, cond, not, List, [], ◌∷◌, ◌==◌, slice_index, slice_set}
 use Rattle.protocol.specs.Ops.{op_set, op_load, op_store, op_add, op_subtract, op_skip_zero, op_skip_nonzero}
 use Rattle.protocol.specs.Format.{register_count, steps_limit, Own, assign, load, store, add, subtract, skip_zero, skip_nonzero}
 use Rattle.protocol.specs.Pages.{Copies, load_word, store_word}

@@ -1,5 +1,4 @@
-// The log writer: it carries the lent log and its fill mark, the number of records that the log has. A function that takes or
-// makes one is proved by a walk of its MIR, so there are two; `append_at`, which writes the bytes, is covered.
+// The log writer: it carries the lent log and its fill mark, the number of records that the log has.
 #![tactic(auto)]
 
 ghost use Rattle.writer.specs.Appended.{Appending, Appended};
@@ -32,7 +31,7 @@ pub fn append<'a>(w: LogWriter<'a>, entry: u64) -> usize
     append_at(&mut *w.log, records, entry)
 }
 
-// The same from a log and its mark: the contract says nothing of a writer, so no caller needs a walk.
+// The same from a log and its mark.
 pub fn append_record(log: &mut [u8], records: usize, entry: u64) -> usize
     requires { Appending log.old records }
     ensures { Appended log.old records entry result log.new }

@@ -1,0 +1,29 @@
+-- `decide` meets its contract: what the ruling promises is what the moves between the lists and the fates ask.
+use native.Mathlib.Omega.{arith}
+use mathlib.Core.Path.{refl}
+use Rattle.protocol.specs.Rounds.{broadcast_rule}
+use Rattle.queue.specs.List.{list_of}
+use Rattle.rules.specs.Codes.{condition_code}
+use Rattle.rules.specs.Rules.{found, ruling_of}
+use Rattle.rules.proofs.Rulings.{by-broadcast}
+use Rattle.decisions.proofs.decision.decide.Goals as goal
+
+pub returns-then-op-eq-BROADCAST : goal.returns-then-op-eq-BROADCAST
+returns-then-op-eq-BROADCAST c = λ locks z.
+    let a = c.args in
+    record {
+      is = broadcast_rule (found a.fates.now (list_of a.lists.waiting) (condition_code a.number)) locks;
+      ruled = by-broadcast (omega (arith, c.if-op-eq-BROADCAST.true)) a.number locks a.sizes.now a.lists.waiting a.fates.now;
+      carried = c.broadcast.ensures locks z;
+    }
+
+pub returns : goal.returns
+returns c = λ locks z.
+    let rule = c.rule-ruling in
+    let ruled = rule.ensures locks z in
+    let after = ruled.after in
+    record {
+      is = ruling_of rule.result after;
+      ruled = ruled.same;
+      carried = record { bytes = refl; held = ruled.shown; outcome = refl; moved = c.moved-after.ensures after; settled = c.settle_fates.ensures after };
+    }

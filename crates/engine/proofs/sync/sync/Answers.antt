@@ -1,0 +1,18 @@
+-- `sync`: an arrival, or the holder's step.
+use native.Mathlib.Omega.{arith}
+use Rattle.engine.proofs.Here.{small, moves-small, list-some, first_small, sync-here}
+use Rattle.engine.proofs.ArriveSimulates.{arrive-simulates}
+use Rattle.engine.proofs.sync.sync.Goals as goal
+
+pub arrive-away-requires : goal.arrive-away-requires
+arrive-away-requires c =
+    let a = c.requires.here in
+    (small a, c.if-t-gt0.true, list-some a, first_small a)
+
+pub overflow_add-result : goal.overflow_add-result
+overflow_add-result c = omega (arith, moves-small c.requires.here)
+
+pub returns-then-t-gt0 : goal.returns-then-t-gt0
+returns-then-t-gt0 c =
+    λ h.
+    arrive-simulates h.here (sync-here h.here h.fetched h.syncs) c.if-t-gt0.true c.arrive-away.ensures.0 c.arrive-away.ensures.1

@@ -1,2 +1,0 @@
--- What both walks are about, and what they have of a writer at exit.
-pub mod Held
