@@ -1,6 +1,7 @@
 #!/usr/bin/env bash
 # Holds docs/PROMISES.md against the repository, both ways: each name in backquotes is the name of something, in a table of a kind that its
-# column may name, and each must-fail edit is cited in a table. An edit has its control beside it, or a row that says what it shows without one.
+# column may name, and each must-fail edit is cited in a table. The edit crates/X/must-fail/LABEL.edit has its control crates/X/controls/LABEL.control,
+# or a row that says what it shows without one.
 #
 # tests/promises.sh [FILE]   FILE stands for docs/PROMISES.md
 set -u -o pipefail
@@ -13,6 +14,10 @@ shopt -s nullglob
 # Words of contracts and of listings, and what the page explains its columns with; they name nothing of ours.
 words=' requires ensures stuck File.name name proofs/File.name crate::name crate/label label.control '
 words+='crates/protocol/specs/File.antt crates/protocol/proofs/File.antt crates/crate/src crates/crate/must-fail/label.edit '
+words+='crates/crate/controls/label.control '
+
+# The crates of crates.txt, whose lines are NAME: .. or NAME staticlib: ..
+crates=$(sed -nE 's/^([a-z][a-z0-9_]*).*/\1/p' crates.txt)
 
 # What antt files declare: `FILE`, `FILE.name`, `TYPE.field`, and the names alone. Fields, constructors and what stands in a
 # module without a name are indented.
@@ -43,17 +48,17 @@ declared_by() { # CRATE
             declare(name)
             if (type != "") declare(type "::" name)
         }
-        struct != "" && match($0, /^    (pub )?[a-z_]+:/) { sub(/^ *(pub )?/, ""); sub(/:.*/, ""); put(struct "." $0) }' crates/"$1"/src/*.rt
+        struct != "" && match($0, /^    (pub )?[a-z_]+:/) { sub(/^ *(pub )?/, ""); sub(/:.*/, ""); put(struct "." $0) }' crates/"$1"/src/*.rt </dev/null
 }
 
 names_there() {
     local crate edit
-    while IFS=: read -r crate _; do
+    for crate in $crates; do
         echo "crate $crate"
         declared_by "$crate"
         for edit in crates/"$crate"/must-fail/*.edit; do echo "edit $crate/$(basename "$edit" .edit)"; done
         [ "$crate" = protocol ] || declared_in proof '' crates/"$crate"/{specs,proofs}/*.antt </dev/null
-    done < <(grep '^[a-z]' crates.txt)
+    done
     declared_in definition '' crates/protocol/specs/*.antt
     declared_in proof proofs/ crates/protocol/proofs/*.antt
     sed -n 's/^static [a-z_0-9 ]*[ *]\([a-z_0-9]*\)(.*/test \1/p' tests/*.c
@@ -98,8 +103,8 @@ exists() { # HEADING NAME
     esac
 }
 
-beside() { # EDIT
-    echo "crates/${1%%/*}/must-fail/${1#*/}"
+control_of() { # EDIT
+    echo "crates/${1%%/*}/controls/${1#*/}.control"
 }
 
 complaints=0
@@ -115,15 +120,16 @@ while read -r line column name; do
 done <"$work/cited"
 while read -r _ edit; do
     grep -qE -- "^[0-9]+ -(must-fail|what-meets-it)- $edit\$" "$work/cited" || complain "no row cites the edit $edit"
-    [ -f "$(beside "$edit").control" ] || grep -q -- " -edit-with-a-weak-control-or-none- $edit\$" "$work/cited" ||
+    [ -f "$(control_of "$edit")" ] || grep -q -- " -edit-with-a-weak-control-or-none- $edit\$" "$work/cited" ||
         complain "the edit $edit has no control, and no row says what it shows"
 done < <(grep '^edit ' "$work/there")
-for control in crates/*/must-fail/*.control; do
-    [ -f "${control%.control}.edit" ] || complain "$control has no edit of its name"
+controls=(crates/*/controls/*)
+for control in "${controls[@]}"; do
+    label=${control#crates/} && label=${label/\/controls\///}
+    [[ $control == *.control ]] && grep -qxF -- "edit ${label%.control}" "$work/there" || complain "$control has no edit of its name"
 done
 
 names=$(wc -l <"$work/cited") edits=$(grep -c '^edit ' "$work/there")
 [ "$names" -gt 0 ] && [ "$edits" -gt 0 ] || complain "there are $names names and $edits edits"
 [ "$complaints" -eq 0 ] || exit 1
-controls=(crates/*/must-fail/*.control)
 echo "promises: $names names stand for something; $edits must-fail edits are cited, and ${#controls[@]} have a control"
