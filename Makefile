@@ -1,13 +1,13 @@
 # make         the library, the command, the header check, the C test programs
-# make test    the gate, .ci/run: all proofs from nothing, then every test
+# make test    the gate, .ci/run: all proofs, then every test
 # make tests   every test, on what is proved already; test-NAME is one of them (TESTS below)
 # make soak, make mutants, make fuzz, make bench, make bench-placed, make bench-instructions, make controls, make broken  what takes longer; see the end of this file
 # make install, make uninstall   the library, the command and their pages; see install.mk
 # make test-page   pages of plans in a browser, beside the gate
 # make clean   removes all that is built
 #
-# What is proved and the C tests stand under target/, which `rt ci` removes too; the measuring program under build/, and what cargo
-# builds under the target/ of its own folder.
+# The archive, the programs and the C tests stand under target/; the measuring program under build/, what cargo builds under the target/
+# of its own folder, and what rt keeps of a crate in crates/NAME/out. rt ci builds no archive and leaves target/ as it is.
 
 CC = gcc
 CXX = g++
@@ -17,6 +17,8 @@ SANITIZE = -fsanitize=address,undefined -fno-sanitize-recover=all -fno-omit-fram
 VALGRIND = valgrind --quiet --error-exitcode=99 --leak-check=full
 
 LIB = target/staticlib/libtampermauve.a
+# what rt printed when it built the archive, and the archive's checksum
+LIB_LOG = $(LIB:.a=.log)
 HEADER = include/tampermauve.h
 OUT = target/c
 
@@ -24,17 +26,17 @@ OUT = target/c
 C_TESTS = check run run_all
 C_PROGRAMS = $(C_TESTS:%=$(OUT)/%) $(C_TESTS:%=$(OUT)/%.sanitized)
 
-# Rattle programs, which `rt check` proves and links to target/bin/NAME
+# Rattle programs, which `rt run` proves and builds
 RT_PROGRAMS = listing vectors
 
-PROVED = $(shell find crates -name '*.rt' -o -name '*.antt') crates.txt
+PROVED = crates.txt $(shell find $(wildcard crates/*/src crates/*/specs crates/*/proofs) -name '*.rt' -o -name '*.antt')
 
 # make's flags are handed on to nobody: cargo would look for make's job server, and warn that it is not handed one, and tests/install.sh
 # calls make with what it needs.
 unexport MAKEFLAGS MFLAGS
 
 # The tests of the gate. What each must print there is in .ci/said.
-TESTS = test-promises test-conventions test-c test-listings test-simulator test-differential test-twin test-hold test-text test-command test-install test-fuzz test-vectors
+TESTS = test-promises test-conventions test-archive test-c test-listings test-simulator test-differential test-twin test-hold test-text test-command test-install test-fuzz test-vectors
 
 .PHONY: all
 all: lib command header programs
@@ -57,13 +59,23 @@ tests: $(TESTS)
 
 .PHONY: clean
 clean:
-	rm -rf target build simulator/target tests/differential/target tests/fuzz/reference/target
+	rm -rf target build out crates/*/out simulator/target tests/differential/target tests/fuzz/reference/target
 
-# ---- the library
+# ---- the library: `rt lib` proves the crate and those below it, and writes the archive of their code
 
 $(LIB): $(PROVED) toolchain.txt
 	.ci/toolchain
-	rt staticlib tampermauve
+	mkdir -p $(dir $@)
+	rm -f crates/tampermauve_c/out/libtampermauve_c.a
+	(cd crates/tampermauve_c && rt lib) > $(LIB_LOG) 2>&1 || { cat $(LIB_LOG); false; }
+	cat $(LIB_LOG)
+	cp crates/tampermauve_c/out/libtampermauve_c.a $@
+	sha256sum < $@ >> $(LIB_LOG)
+
+# its symbols, and what its proof relies on
+.PHONY: test-archive
+test-archive: $(LIB)
+	tests/archive.sh $(LIB) $(LIB_LOG)
 
 # ---- the command, plainly and with sanitizers
 
@@ -81,11 +93,15 @@ $(COMMAND): $(COMMAND_NEEDS)
 $(OUT)/tampermauve.sanitized: $(COMMAND_NEEDS) | $(OUT)
 	$(CC) $(CFLAGS) $(SANITIZE) -Iinclude -Icommand $(COMMAND_SOURCES) $(LIB) -o $@
 
-# ---- Rattle programs
+# ---- Rattle programs. `rt run` proves one, builds it and runs it there, on an empty input; how it ends says nothing here. One that is not
+# proved is not built.
 
 target/bin/%: $(PROVED) toolchain.txt
 	.ci/toolchain
-	rt check $*
+	mkdir -p $(dir $@)
+	rm -f crates/$*/out/$*
+	cd crates/$* && { rt run < /dev/null > /dev/null || [ -x out/$* ]; }
+	cp crates/$*/out/$* $@
 
 # ---- the header, alone, as C99 and as C++
 
