@@ -1,16 +1,17 @@
 #!/usr/bin/env bash
-# A must-fail edit shows little where the prover would refuse any change at its place. So beside crates/X/must-fail/LABEL.edit may
-# stand LABEL.control, in the same format: a rewrite at the same place that changes nothing, which the prover must accept.
+# A must-fail edit shows little where the prover would refuse any change at its place. So with crates/X/must-fail/LABEL.edit may
+# stand crates/X/controls/LABEL.control, in the same format: a rewrite at the same place that changes nothing, which the prover must accept.
 #
 #     tests/controls.sh [CRATE...]        tries the controls of these crates, or of all, in a copy of the repository
+#
+# The copy has no out/ folders: rt takes over what it kept of the same files in another folder of this machine. So it is fast where each crate was
+# checked here before, by `rt all check`.
 set -u
 cd "$(dirname "$0")/.." || exit 2
-[ $# -gt 0 ] || set -- $(sed -n 's/^\([a-z0-9_]*\):.*/\1/p' crates.txt)
+[ $# -gt 0 ] || set -- $(sed -nE 's/^([a-z][a-z0-9_]*).*/\1/p' crates.txt)
 copy=$(mktemp -d) || exit 2
 trap 'rm -rf "$copy"' EXIT
-# target/ has what is proved already, so that only the crate itself is checked anew
 git ls-files -z | while IFS= read -r -d '' f; do [ ! -e "$f" ] || printf '%s\0' "$f"; done | xargs -0 cp --parents -t "$copy" || exit 2
-[ ! -d target ] || cp -r target "$copy" || exit 2
 
 place() { # CRATE EDIT: the file and the line of its first text
     local file old
@@ -23,7 +24,8 @@ replace() { # FILE OLD NEW: fails unless OLD stands there once, and the file cha
 }
 
 try() { # CRATE CONTROL: says why the control fails
-    local edit=${2%.control}.edit file='' old='' new line pairs=0
+    local edit file='' old='' new line pairs=0
+    edit=crates/$1/must-fail/$(basename "$2" .control).edit
     [ -f "$edit" ] || { echo "no edit has this name"; return 1; }
     [ "$(place "$1" "$2")" = "$(place "$1" "$edit")" ] || { echo "it does not stand where the edit does"; return 1; }
     while IFS= read -r line; do
@@ -38,14 +40,22 @@ try() { # CRATE CONTROL: says why the control fails
         esac
     done <"$2"
     [ "$pairs" -gt 0 ] || { echo "it changes nothing"; return 1; }
-    (cd "$copy" && rt dev "$1") >"$copy/log" 2>&1 && grep -q '^logic=proved' "$copy/log" && return 0
+    (cd "$copy/crates/$1" && rt check) >"$copy/log" 2>&1 && grep -q '^logic=proved ' "$copy/log" && return 0
     grep -m 1 error "$copy/log" || tail -n 1 "$copy/log"
     return 1
 }
 
+# What the crate is of, as it stands; its out/ in the copy stays, so that the next check begins with it.
+restore() { # CRATE
+    local folder
+    for folder in src specs proofs; do
+        [ ! -d "crates/$1/$folder" ] || { rm -rf "$copy/crates/$1/$folder" && cp -r "crates/$1/$folder" "$copy/crates/$1/"; } || exit 2
+    done
+}
+
 all=0 accepted=0
 for crate; do
-    for control in crates/"$crate"/must-fail/*.control; do
+    for control in crates/"$crate"/controls/*.control; do
         [ -f "$control" ] || continue
         all=$((all + 1)) label=$crate/$(basename "$control" .control)
         if said=$(try "$crate" "$control"); then
@@ -54,7 +64,7 @@ for crate; do
         else
             echo "REFUSED $label: ${said:0:300}"
         fi
-        cp -r crates/"$crate" "$copy/crates/"
+        restore "$crate"
     done
 done
 echo "$accepted of $all accepted"
