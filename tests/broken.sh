@@ -1,16 +1,23 @@
 #!/usr/bin/env bash
 # Breaks one thing of each kind in a copy of the repository and sees that the test which looks at it fails and says what of it, and tries on
-# the gate what once fooled it. Not part of the gate. It needs what `make` has built; no proof is run: the gate is tried with an rt that
-# answers at once. Prints a line for each thing broken, then `N of N seen`.
+# the gate what once fooled it. Not part of the gate. It needs what `make` has built; no proof is run: in place of rt stands one that answers
+# at once, and hands out what is built. Prints a line for each thing broken, then `N of N seen`.
 set -u -o pipefail
 cd "$(dirname "${BASH_SOURCE[0]}")/.." || exit 1
 archive=target/staticlib/libtampermauve.a
-[ -f "$archive" ] && [ -x target/bin/listing ] && [ -x target/bin/vectors ] || { echo "broken: run make first" >&2; exit 2; }
+archive_log=${archive%.a}.log
+for file in "$archive" "$archive_log" target/bin/listing target/bin/vectors; do
+    [ -f "$file" ] || { echo "broken: run make first" >&2; exit 2; }
+done
 work=$(mktemp -d) || exit 2
 trap 'rm -rf "$work"' EXIT
-mkdir "$work/copy" "$work/bin" "$work/right" || exit 2
+mkdir "$work/copy" "$work/bin" "$work/right" "$work/built" || exit 2
 git ls-files -co --exclude-standard | tar -cf - -T - target | tar -xf - -C "$work/copy" || exit 2
 cd "$work/copy" || exit 2
+# what rt hands out: the archive and what was printed of it, less its checksum, and the programs
+cp -p "$archive" "$work/built/libtampermauve_c.a" && cp -p target/bin/{listing,vectors} "$work/built" || exit 2
+sed '$d' "$archive_log" >"$work/built/log" || exit 2
+export PATH=$work/bin:$PATH
 seen=0
 tried=0
 
@@ -120,16 +127,18 @@ pairs() {
     changed "a step that names one byte alone, in the fuzz target" tests/fuzz/pair.c '/named\[address + 1\] = 1;/d' 'two calls part' make test-fuzz
 }
 
-# The twin under the library's names, with the fault that a woken worker comes into the next round.
+# The twin under the library's names, with the fault that a woken worker comes into the next round: where make has put the archive, and where
+# rt has it from.
 wrong_archive() {
     cp -p "$archive" "$work/right/"
     sed 's/put_behind_first(&e->list, woken);/push(\&e->next, woken);/' bench/twin.c >"$work/twin.c"
     gcc -std=c99 -O1 -w -I bench -Dtwin_check=tampermauve_check -Dtwin_run=tampermauve_run -Dtwin_run_all=tampermauve_run_all -c "$work/twin.c" -o "$work/twin.o" || exit 2
-    rm "$archive" && ar rcs "$archive" "$work/twin.o" || exit 2
+    rm "$archive" && ar rcs "$archive" "$work/twin.o" && cp "$archive" "$work/built/libtampermauve_c.a" || exit 2
 }
 
 right_archive() {
-    mv "$work/right/libtampermauve.a" "$archive" && touch "$archive"
+    cp "$work/right/libtampermauve.a" "$work/built/libtampermauve_c.a" || exit 2
+    mv "$work/right/libtampermauve.a" "$archive" && touch "$archive" || exit 2
 }
 
 archives() {
@@ -144,34 +153,70 @@ archives() {
 # ---- docs/PROMISES.md, held against what is there
 
 promises() {
-    local page=docs/PROMISES.md edits=crates/words/must-fail
-    changed "a definition that is not there" $page 's/`Refusals.numberOf`/`Refusals.numbersOf`/' '`Refusals.numbersOf` names nothing' make test-promises
+    local page=docs/PROMISES.md edits=crates/words/must-fail controls=crates/words/controls
+    changed "a definition that is not there" $page 's/`Refusals.number_of`/`Refusals.numbers_of`/' \
+        '`Refusals.numbers_of` names nothing' make test-promises
     changed "a theorem that is not there" $page 's/`proofs\/Formed.runnable`/`proofs\/Formed.running`/' '`proofs/Formed.running` names nothing' make test-promises
     changed "a contract that is not there" $page 's/`words::word`/`words::words`/' '`words::words` names nothing' make test-promises
     changed "a test that is not there" $page 's/| `lengths`, /| `length`, /' '`length` names nothing' make test-promises
     changed "an edit that is not there" $page 's/`words\/clear-one-byte`/`words\/clear-two-bytes`/' '`words/clear-two-bytes` names nothing' make test-promises
-    changed "a definition renamed" crates/protocol/specs/Refusals.antt 's/numberOf/numbersOf/' '`numberOf` names nothing' make test-promises
+    changed "a definition renamed" crates/protocol/specs/Refusals.antt 's/number_of/numbers_of/' \
+        '`number_of` names nothing' make test-promises
     changed "a test renamed" tests/check.c 's/\blengths(/all_lengths(/' '`lengths` names nothing' make test-promises
     without "an edit, lost" $edits/clear-one-byte.edit '`words/clear-one-byte` names nothing' make test-promises
     without "the edits of a crate, lost" $edits '`words/high-byte-first` names nothing' make test-promises
     cp $edits/clear-one-byte.edit $edits/clear-no-byte.edit
     fails "an edit that no row cites" 'no row cites the edit words/clear-no-byte' make test-promises
     rm $edits/clear-no-byte.edit
+    without "a control, lost" $controls/clear-one-byte.control \
+        'words/clear-one-byte has no control, and no row says what it shows' make test-promises
+    cp $controls/clear-one-byte.control $controls/clear-no-byte.control
+    fails "a control of no edit" 'clear-no-byte.control has no edit of its name' make test-promises
+    rm $controls/clear-no-byte.control
+    changed "a crate that crates.txt lists below the static library" crates.txt '/^listed:/d' '`listed::' make test-promises
 }
 
 # ---- the conventions
 
 conventions() {
-    changed "specs that import a proof" crates/engine/specs/Moving.antt '2i use Rattle·protocol.proofs.Sound.{Sound}' 'imports a proof' make test-conventions
-    changed "a contract that imports a proof" crates/engine/src/sync.rt '/^ghost use/i ghost use Rattle·engine.proofs.Facts.{known};' 'a contract imports a proof' make test-conventions
-    changed "an import that is not used" crates/engine/specs/Moving.antt 's/_+_, _<_}/_+_, _-_, _<_}/' 'is imported and not used: crates/engine/specs/Moving.antt:2: _-_' make test-conventions
-    changed "an import of the code that is not used" crates/engine/src/own.rt 's/^use format::ops;/&\nuse format::fates::GOING;/' 'own.rt:5: GOING' make test-conventions
+    changed "specs that import a proof" crates/engine/specs/Moving.antt '2i use Rattle.protocol.proofs.Sound.{Sound}' \
+        ': imports a proof: crates/engine/specs/Moving.antt:2' make test-conventions
+    changed "a contract that imports a proof" crates/engine/src/sync.rt '/^ghost use/i ghost use Rattle.engine.proofs.Facts.{known};' \
+        'a contract imports a proof' make test-conventions
+    changed "a definition by a proof's whole name" crates/engine/specs/Moving.antt '$a sound = Rattle.protocol.proofs.Sound.Sound' \
+        ': imports a proof: crates/engine/specs/Moving.antt' make test-conventions
+    changed "an import that is not used" crates/engine/specs/Moving.antt '2s/◌<◌, /◌-◌, &/' \
+        'is imported and not used: crates/engine/specs/Moving.antt:2: ◌-◌' make test-conventions
+    changed "an operator that stands in another alone" crates/protocol/specs/Report.antt '2s/◌++◌, /◌+◌, &/' \
+        'crates/protocol/specs/Report.antt:2: ◌+◌' make test-conventions
+    changed "a further name that is not used" crates/engine/specs/Moving.antt '2i use Rattle.protocol.specs.Rounds.{Entry as Line}' \
+        'crates/engine/specs/Moving.antt:2: Line' make test-conventions
+    changed "an import of the code that is not used" crates/engine/src/own.rt 's/^use format::ops;/&\nuse format::fates::GOING;/' \
+        'own.rt:8: GOING' make test-conventions
+    changed "an import in a list of the code that is not used" crates/engine/src/own.rt 's/^use moves::{fetch/use moves::{Fetched, fetch/' \
+        'own.rt:9: Fetched' make test-conventions
+    changed "a definition that is imported for the code alone" crates/engine/src/own.rt '2i ghost use Rattle.protocol.specs.Format.{synchronises};' \
+        'own.rt:2: synchronises' make test-conventions
+    changed "an import that is read by nobody" crates/engine/src/own.rt 's/^use moves::{fetch, own_move};/use moves::*;/' \
+        'own.rt: an import that is not read: moves::*' make test-conventions
     fails "imports that cannot be read" 'the imports could not be read' bash -c 'perl() { return 127; }; export -f perl; tests/conventions.sh'
+    changed "a contract that does not end" crates/plan/src/check.rt 's/ensures { result ≡ wrong_length bytes }/ensures { result ≡ { wrong_length bytes }/' \
+        'check.rt: a contract that does not end' make test-conventions
     changed "a name for two things" crates/decisions/specs/Fates.antt '$a abbrev pub kept : ℕ\nkept = 0' 'stands for two things: kept' make test-conventions
     changed "a type of another's name" crates/decisions/specs/Fates.antt 's/record Freeing/record Syncing/' 'is two types: Syncing' make test-conventions
     changed "a type of the code with a definition's name" crates/token/src/lib.rt 's/^pub struct Round /pub struct State /' 'another one in specs or proofs: State' make test-conventions
     changed "two types of the code with one name" crates/token/src/lib.rt 's/^pub struct Round /pub struct Moved /' 'is two types of the code: Moved' make test-conventions
     changed "a number without a name" crates/plan/src/check.rt 's/FILE_LIMIT < bytes/7280 < bytes/' 'a number without a name' make test-conventions
+    changed "a number behind a contract of many lines" crates/engine/src/sync.rt 's/moves: counts.moves + 1,/moves: counts.moves + 3,/' \
+        'a number without a name: crates/engine/src/sync.rt:' make test-conventions
+    changed "a number behind a contract on its last line" crates/plan/src/check.rt 's/ensures { result ≡ wrong_length bytes }/& { 7280 }/' \
+        'a number without a name: crates/plan/src/check.rt:' make test-conventions
+    changed "a number in an impl" crates/queue/src/lib.rt 's/self.matching(entries, entry, true)/self.matching(entries, 5, true)/' \
+        'a number without a name: crates/queue/src/lib.rt:' make test-conventions
+    changed "a number at a range's end" crates/plan/src/check.rt 's/    FILE_LIMIT < bytes/    for i in 0..7 {}\n&/' \
+        'check.rt:42: 7' make test-conventions
+    changed "a library that takes hold of the system" crates/words/src/lib.rt '$a fn print(rt: HostRuntime) {}' \
+        'a library names the system itself: crates/words/src/lib.rt:' make test-conventions
     changed "an op without its name" crates/worker/src/lib.rt 's/if op == ops::LOAD/if op == 2/' 'an op, a fate or an outcome without its name' make test-conventions
     changed "an op that the header numbers otherwise" include/tampermauve.h 's/OP_WAIT 34u/OP_WAIT 43u/' "not the header's" make test-conventions
     changed "an op without a text" command/records.c '/TAMPERMAUVE_OP_EXIT, "exit"/d' 'has no text in command/records.c, or the other way round: OP_EXIT' make test-conventions
@@ -182,32 +227,58 @@ conventions() {
     changed "an op that the list of points leaves out" crates/format/src/points.rt '/ops::EXIT =>/d' 'not in the list of points, or not at its place in the table: < EXIT' make test-conventions
     changed "two ops of the list exchanged" crates/format/src/points.rt 's/ops::WAIT/ops::X/; s/ops::SIGNAL/ops::WAIT/; s/ops::X/ops::SIGNAL/' 'not at its place in the table' make test-conventions
     changed "code that decides by the number" crates/engine/src/own.rt 's/if synchronises(r.op)/if ops::LOCK <= r.op/' 'decides by the number' make test-conventions
-    changed "a definition that decides by the number" crates/engine/specs/Moving.antt 's/pub syncs : synchronises (r .op) ≡ true/pub syncs : op_lock ≤ r .op/' 'decides by the number' make test-conventions
+    changed "a definition that decides by the number" crates/engine/specs/Moving.antt 's/pub syncs : synchronises r.op ≡ true/pub syncs : op_lock ≤ r.op/' \
+        'decides by the number' make test-conventions
+    changed "a definition that decides by the first op's other name" crates/engine/specs/Moving.antt 's/pub syncs : synchronises r.op ≡ true/pub syncs : syncs_from ≤ r.op/' \
+        'decides by the number' make test-conventions
+    changed "limits that nobody defines" crates/protocol/specs/Format.antt 's/^\([a-z_]*\) = \([0-9]\+\)$/\1 = 0 + \2/' \
+        'limits: none in crates/protocol/specs/Format.antt' make test-conventions
     changed "a long line" crates/words/src/lib.rt "1s/^/\/\/ $(printf 'é%.0s' {1..200})\n/" 'above 200 characters: crates/words/src/lib.rt:1' make test-conventions
 }
 
 # ---- the gate
 
-# An rt that proves nothing and says what rt ci would say of the crates and edits that it finds.
-write_rt() { # STATUS [AXIOMS]
+# An rt that proves nothing. Of the crates and edits that it finds it says what rt ci would say, and the archive and the programs are those in
+# built/. What rt leaves in out/ is no part of the repository.
+everything='every proof and must-fail edit was done in this run'
+write_rt() { # STATUS [BEHIND THE COUNT OF EDITS [HOW MUCH WAS DONE [CRATES THAT FAIL]]]
     cat >"$work/bin/rt" <<STUB
 #!/usr/bin/env bash
-[ "\$1" = version ] && { grep -v '^#' "$work/copy/toolchain.txt"; exit; }
-[ "\$1" = ci ] || exit 2
-crates=\$(grep -c '^[a-z]' crates.txt)
-edits=\$(ls crates/*/must-fail/*.edit | wc -l)
-echo "logic=proved functions=1 ${2:-}"
-echo "rt: pages proved (1 s)"
-echo "rt: ok, \$crates crates proved, \$edits must-fail edits refused"
-echo "\$((crates + edits)) passed, 0 failed"
-exit $1
+built=$work/built
+case \$1 in
+version) grep -v '^#' "$work/copy/toolchain.txt" ;;
+ci)
+    rm -rf crates/*/out
+    crates=\$((\$(grep -c '^[a-z]' crates.txt) - ${4:-0}))
+    edits=\$(ls crates/*/must-fail/*.edit | wc -l)
+    for program in listing vectors; do install -D "\$built/\$program" "crates/\$program/out/\$program"; done
+    mkdir -p crates/pages/out && touch crates/pages/out/copied.edit
+    echo "== pages"
+    echo "logic=proved functions=7 sum=1"
+    echo "rt: pages proved"
+    echo "rt: words is kept: an earlier run on this machine proved the same files over the same libraries"
+    echo "rt: ok; handles allowed: none; must-fail edits: \$edits refused${2:-}; ${3:-$everything}"
+    echo "\$((crates + edits)) passed, 0 failed"
+    exit $1
+    ;;
+lib)
+    mkdir -p out && cp "\$built/libtampermauve_c.a" out/
+    cat "\$built/log"
+    ;;
+run)
+    program=\$(basename "\$PWD")
+    install -D "\$built/\$program" "out/\$program" && "out/\$program"
+    ;;
+check) echo "logic=proved functions=1 sum=1" ;;
+*) exit 2 ;;
+esac
 STUB
     chmod +x "$work/bin/rt"
 }
 
 # Prints what a command prints, and ends with 0 just when its last line is the gate's good one.
 passes() { # COMMAND...
-    PATH=$work/bin:$PATH "$@" 2>&1 | tee "$work/gate"
+    "$@" 2>&1 | tee "$work/gate"
     tail -n 1 "$work/gate" | grep -qxE '[0-9]+ passed, 0 failed'
 }
 
@@ -223,7 +294,50 @@ gate_tests() {
     wrong_archive
     changed "TAMPERMAUVE_LIB names the right archive" Makefile 's/^TESTS = .*/TESTS = test-differential/' 'a small call with a difference' \
         passes env TAMPERMAUVE_LIB="$work/right" .ci/run
+    cp "$work/right/libtampermauve.a" "$archive"
+    changed "an archive that stands there already, and is the right one" Makefile 's/^TESTS = .*/TESTS = test-differential/' \
+        'a small call with a difference' passes .ci/run
     right_archive
+}
+
+# ---- the archive's symbols, and what rt said of it
+
+# The gate with test-archive alone and something changed of what rt hands out.
+handed_out() { # NAME FILE SCRIPT TEXT
+    cp "$work/built/$2" "$work/handed"
+    sed -i -e "$3" "$work/built/$2"
+    cmp -s "$work/built/$2" "$work/handed" && { echo "broken: $1: nothing changes in $2" >&2; exit 2; }
+    changed "$1" Makefile 's/^TESTS = .*/TESTS = test-archive/' "$4" passes .ci/run
+    mv "$work/handed" "$work/built/$2"
+}
+
+# The same with something added to the archive.
+with_more() { # NAME C-SOURCE TEXT
+    cp "$work/built/libtampermauve_c.a" "$work/handed"
+    gcc -std=c99 -O1 -w -x c -c - -o "$work/more.o" <<<"$2" && ar rs "$work/built/libtampermauve_c.a" "$work/more.o" 2>/dev/null || exit 2
+    changed "$1" Makefile 's/^TESTS = .*/TESTS = test-archive/' "$3" passes .ci/run
+    mv "$work/handed" "$work/built/libtampermauve_c.a"
+}
+
+gate_archive() {
+    handed_out "an archive that reaches an axiom" log \
+        's/^axioms libc: none reached of the \([0-9]*\) declared$/axioms libc: libc::write (1 of the \1 declared)/' \
+        'the archive reaches an axiom: axioms libc: libc::write'
+    handed_out "a proof that relies on an axiom" log 's/^logic=proved functions=[0-9]*/& axioms=1/' 'the proof relies on an axiom'
+    handed_out "an archive of whose axioms nothing is said" log '/^axioms libc: /d' 'says nothing of the axioms of libc'
+    handed_out "an archive that is not proved" log 's/^logic=proved/logic=unproved/' 'has no verdict that it is proved'
+    with_more "an archive that needs a further function" \
+        'int puts(const char *); static __attribute__((used)) int more(void) { return puts(""); }' \
+        'archive: it needs besides: puts'
+    with_more "an archive with a further name" 'int tampermauve_more = 1;' 'archive: it defines besides: D tampermauve_more'
+    rm "$archive" && make "$archive" >/dev/null && tests/archive.sh "$archive" "$archive_log" >/dev/null || exit 2
+    cp "$archive" "$work/handed"
+    ar d "$archive" "$(ar t "$archive" | head -n 1)"
+    fails "an archive without the calls" 'archive: it does not define: T tampermauve_check' tests/archive.sh "$archive" "$archive_log"
+    cp "$work/handed" "$archive"
+    gcc -w -x c -c - -o "$work/more.o" <<<'' && ar rs "$archive" "$work/more.o" 2>/dev/null || exit 2
+    fails "an archive of which rt said nothing" 'is that of another archive' tests/archive.sh "$archive" "$archive_log"
+    mv "$work/handed" "$archive"
 }
 
 gate_proofs() {
@@ -234,9 +348,23 @@ gate_proofs() {
     without "the gate with a folder of edits lost" $edits 'ci: FAILED: a test failed' passes .ci/run
     write_rt 1
     fails "an rt ci that prints the line and ends with 1" 'ci: FAILED: rt ci ended with status 1' passes .ci/run
-    write_rt 0 axioms=1
-    fails "a library crate proved with an axiom" 'ci: FAILED: the library crate pages is proved with axioms' passes .ci/run
-    sed -i 's/^\[ "$1" = version \].*/[ "$1" = version ] \&\& { echo another; exit; }/' "$work/bin/rt"
+    write_rt 0 ', 1 bad'
+    fails "a bad edit" 'refused, 1 bad; every' passes .ci/run
+    write_rt 0 ', 1 of them only by a limit'
+    fails "an edit that only a limit of the prover refuses" 'refused, 1 of them only by a limit; every' passes .ci/run
+    write_rt 0 '' '' 1
+    fails "a crate that is not proved" 'edits are not: ' passes .ci/run
+    write_rt 0 '' 'done in this run: 0 of the 25 proofs (of crates and of their tests) and 0 of the 12 must-fail edits; the others are kept'
+    fails "a kept run of fewer edits" 'must-fail edits, but rt ci says: rt: ok; ' passes .ci/run
+    write_rt 0 '' 'done in this run: 0 of the 25 proofs (of crates and of their tests) and 0 of the $edits must-fail edits; the others are kept from earlier runs'
+    changed "most tests left out where all is kept" Makefile 's/^TESTS = .*/TESTS = test-promises/' 'ci: FAILED: a test did not run' \
+        passes .ci/run
+    write_rt 0
+    sed -i 's/handles allowed: none/handles allowed: Threads/' "$work/bin/rt"
+    fails "a handle that is allowed" 'must-fail edits, but rt ci says: rt: ok; handles allowed: Threads' passes .ci/run
+    write_rt 0
+    without "an rt ci that leaves no program" "$work/built/vectors" 'ci: FAILED: rt ci left no program vectors' passes .ci/run
+    sed -i 's/^version) .*/version) echo another ;;/' "$work/bin/rt"
     fails "another toolchain" 'ci: FAILED: the toolchain' passes .ci/run
 }
 
@@ -254,6 +382,7 @@ archives
 promises
 conventions
 gate_tests
+gate_archive
 gate_proofs
 echo "$seen of $tried seen"
 [ "$seen" -eq "$tried" ]

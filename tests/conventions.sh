@@ -78,7 +78,7 @@ unused() {
         for my $file (@ARGV) {
             my $text = source($file);
             my $clauses = $file =~ /rt$/ ? clauses($file, $text) : "";
-            my (%line, %ghost);
+            my %line; # of what is ghost and of what is not, since both may have one name
             my $read = sub {
                 my ($at, $ghost, $path, $list, $as) = @_;
                 my $module = $path =~ s/^.*[.:]//r;
@@ -88,8 +88,7 @@ unused() {
                     die "$file: an import that is not read: $path*\n" if $name eq "*";
                     next if !$ghost && $path =~ /^std::/ && " $ENV{METHODS} " =~ / $name /;
                     $name = $path =~ s/::$//r =~ s/^.*:://r if $name eq "self";
-                    $line{$name} = 1 + (substr($text, 0, $at) =~ tr/\n//);
-                    $ghost{$name} = $ghost;
+                    $line{$ghost // ""}{$name} = 1 + (substr($text, 0, $at) =~ tr/\n//);
                 }
             };
             $text =~ s/^ *(ghost )?use ([^;{}*\s]+)(?:(\*)|\{([^{}]*)\})?(?: as ([^;\s]+))?;?[ ]*$/$read->($-[0], $1, $2, defined $3 ? $3 : $4, $5); blank($&)/mge;
@@ -99,13 +98,14 @@ unused() {
             $clauses .= join(" ", $text =~ /^ *#!?\[.*/mg);
             my $ghostly = $file =~ /rt$/ && $text !~ /\bghost\b|\bModel\b/ ? $clauses : $anywhere;
             my $words = sub { map { $_ => 1 } split(/[\s(){},;.\[\]]+/, $_[0]), $file =~ /rt$/ ? split(/\W+/, $_[0]) : () };
-            my %anywhere = $words->($anywhere);
-            my %ghostly = $words->($ghostly);
-            for my $name (sort keys %line) {
-                my ($in, $all) = $ghost{$name} ? (\%ghostly, $ghostly) : (\%anywhere, $anywhere);
-                my @signs = $name =~ /◌/ ? grep { length } split(/◌/, $name) : ();
-                my $there = $in->{$name} || (@signs ? !grep({ !$in->{$_} } @signs) : $name !~ /\w/ && index($all, $name) >= 0);
-                print "$file:$line{$name}: $name\n" unless $there;
+            for my $ghost (sort keys %line) {
+                my $all = $ghost ? $ghostly : $anywhere;
+                my %in = $words->($all);
+                for my $name (sort keys %{$line{$ghost}}) {
+                    my @signs = $name =~ /◌/ ? grep { length } split(/◌/, $name) : ();
+                    my $there = $in{$name} || (@signs ? !grep({ !$in{$_} } @signs) : $name !~ /\w/ && index($all, $name) >= 0);
+                    print "$file:$line{$ghost}{$name}: $name\n" unless $there;
+                }
             }
         }' "$@"
 }
@@ -209,7 +209,8 @@ complain "decides by the number whether an op synchronises" < <(
 
 # ---- lines
 
-complain "above 200 characters" < <(for f in $(files '*.antt') $(files '*.rt'); do awk -v f="$f" 'length($0) > 600 { print f ":" FNR }' "$f"; grep -nE '^.{201,}$' "$f" | cut -d : -f 1 | sed "s|^|$f:|"; done | sort -u)
+complain "above 200 characters" < <(
+    perl -CSD -ne 'chomp; print "$ARGV:$.\n" if length > 200; close ARGV if eof' $(files '*.antt') $(files '*.rt'))
 
 [ "$complaints" -eq 0 ] || exit 1
 echo "conventions: $(files '*.antt' | wc -l) files of antt and $(files '*.rt' | wc -l) of Rattle keep them"
