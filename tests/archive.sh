@@ -1,6 +1,6 @@
 #!/usr/bin/env bash
-# Holds the archive to what is said of it: it defines the three calls and nothing else, it needs nothing but memset, memcpy and memmove, which
-# each C library has, and its proof relies on no axiom: on no function that is written in C.
+# Holds the archive to what is said of it: it defines the three calls and nothing else, it needs nothing but memset, memcpy and
+# memmove, which each C library has, and its proof relies on no axiom: on no function that is written in C.
 #
 #     tests/archive.sh ARCHIVE LOG      LOG is what rt printed when it built the archive, and then the archive's checksum
 set -u -o pipefail
@@ -33,7 +33,8 @@ grep -qxF -- "$(sha256sum <"$archive")" "$log" || fail "$log is that of another 
 # rt names each crate that declares functions of C, and how many of them what is in the archive can reach.
 verdict=$(grep '^logic=' "$log" | tail -n 1)
 [[ $verdict == 'logic=proved '* ]] || fail "$log has no verdict that it is proved"
-[ -z "$(grep -E '^logic=.* (axioms|foreign)=' "$log")" ] || fail "the proof relies on an axiom: $(grep -E -m 1 '^logic=.* (axioms|foreign)=' "$log")"
+leaning=$(grep -E -m 1 '^logic=.* (axioms|foreign)=' "$log")
+[ -z "$leaning" ] || fail "the proof relies on an axiom: $leaning"
 reached=$(grep '^axioms ' "$log" | grep -vxE 'axioms [a-z0-9_]+: none reached of the [0-9]+ declared')
 [ -z "$reached" ] || fail "the archive reaches an axiom: $(head -n 1 <<<"$reached")"
 for crate in libc os std; do

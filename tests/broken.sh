@@ -1,7 +1,7 @@
 #!/usr/bin/env bash
 # Breaks one thing of each kind in a copy of the repository and sees that the test which looks at it fails and says what of it, and tries on
-# the gate what once fooled it. Not part of the gate. It needs what `make` has built; no proof is run: in place of rt stands one that answers
-# at once, and hands out what is built. Prints a line for each thing broken, then `N of N seen`.
+# the gate what once fooled it. Not part of the gate. It needs what `make` has built; no proof is run: in place of rt stands one that
+# answers at once, and hands out what is built. Prints a line for each thing broken, then `N of N seen`.
 set -u -o pipefail
 cd "$(dirname "${BASH_SOURCE[0]}")/.." || exit 1
 archive=target/staticlib/libtampermauve.a
@@ -127,8 +127,8 @@ pairs() {
     changed "a step that names one byte alone, in the fuzz target" tests/fuzz/pair.c '/named\[address + 1\] = 1;/d' 'two calls part' make test-fuzz
 }
 
-# The twin under the library's names, with the fault that a woken worker comes into the next round: where make has put the archive, and where
-# rt has it from.
+# The twin under the library's names, with the fault that a woken worker comes into the next round: where make has put the archive, and
+# where rt has it from.
 wrong_archive() {
     cp -p "$archive" "$work/right/"
     sed 's/put_behind_first(&e->list, woken);/push(\&e->next, woken);/' bench/twin.c >"$work/twin.c"
@@ -195,12 +195,13 @@ conventions() {
         'own.rt:8: GOING' make test-conventions
     changed "an import in a list of the code that is not used" crates/engine/src/own.rt 's/^use moves::{fetch/use moves::{Fetched, fetch/' \
         'own.rt:9: Fetched' make test-conventions
-    changed "a definition that is imported for the code alone" crates/engine/src/own.rt '2i ghost use Rattle.protocol.specs.Format.{synchronises};' \
-        'own.rt:2: synchronises' make test-conventions
+    changed "a definition that is imported for the code alone" crates/engine/src/own.rt \
+        '2i ghost use Rattle.protocol.specs.Format.{synchronises};' 'own.rt:2: synchronises' make test-conventions
     changed "an import that is read by nobody" crates/engine/src/own.rt 's/^use moves::{fetch, own_move};/use moves::*;/' \
         'own.rt: an import that is not read: moves::*' make test-conventions
     fails "imports that cannot be read" 'the imports could not be read' bash -c 'perl() { return 127; }; export -f perl; tests/conventions.sh'
-    changed "a contract that does not end" crates/plan/src/check.rt 's/ensures { result ≡ wrong_length bytes }/ensures { result ≡ { wrong_length bytes }/' \
+    changed "a contract that does not end" crates/plan/src/check.rt \
+        's/ensures { result ≡ wrong_length bytes }/ensures { result ≡ { wrong_length bytes }/' \
         'check.rt: a contract that does not end' make test-conventions
     changed "a name for two things" crates/decisions/specs/Fates.antt '$a abbrev pub kept : ℕ\nkept = 0' 'stands for two things: kept' make test-conventions
     changed "a type of another's name" crates/decisions/specs/Fates.antt 's/record Freeing/record Syncing/' 'is two types: Syncing' make test-conventions
@@ -227,9 +228,11 @@ conventions() {
     changed "an op that the list of points leaves out" crates/format/src/points.rt '/ops::EXIT =>/d' 'not in the list of points, or not at its place in the table: < EXIT' make test-conventions
     changed "two ops of the list exchanged" crates/format/src/points.rt 's/ops::WAIT/ops::X/; s/ops::SIGNAL/ops::WAIT/; s/ops::X/ops::SIGNAL/' 'not at its place in the table' make test-conventions
     changed "code that decides by the number" crates/engine/src/own.rt 's/if synchronises(r.op)/if ops::LOCK <= r.op/' 'decides by the number' make test-conventions
-    changed "a definition that decides by the number" crates/engine/specs/Moving.antt 's/pub syncs : synchronises r.op ≡ true/pub syncs : op_lock ≤ r.op/' \
+    changed "a definition that decides by the number" crates/engine/specs/Moving.antt \
+        's/pub syncs : synchronises r.op ≡ true/pub syncs : op_lock ≤ r.op/' \
         'decides by the number' make test-conventions
-    changed "a definition that decides by the first op's other name" crates/engine/specs/Moving.antt 's/pub syncs : synchronises r.op ≡ true/pub syncs : syncs_from ≤ r.op/' \
+    changed "a definition that decides by the first op's other name" crates/engine/specs/Moving.antt \
+        's/pub syncs : synchronises r.op ≡ true/pub syncs : syncs_from ≤ r.op/' \
         'decides by the number' make test-conventions
     changed "limits that nobody defines" crates/protocol/specs/Format.antt 's/^\([a-z_]*\) = \([0-9]\+\)$/\1 = 0 + \2/' \
         'limits: none in crates/protocol/specs/Format.antt' make test-conventions
@@ -238,8 +241,8 @@ conventions() {
 
 # ---- the gate
 
-# An rt that proves nothing. Of the crates and edits that it finds it says what rt ci would say, and the archive and the programs are those in
-# built/. What rt leaves in out/ is no part of the repository.
+# An rt that proves nothing. Of the crates and edits that it finds it says what rt ci would say, and the archive and the programs are
+# those in built/. What rt leaves in out/ is no part of the repository.
 everything='every proof and must-fail edit was done in this run'
 write_rt() { # STATUS [BEHIND THE COUNT OF EDITS [HOW MUCH WAS DONE [CRATES THAT FAIL]]]
     cat >"$work/bin/rt" <<STUB
@@ -341,7 +344,7 @@ gate_archive() {
 }
 
 gate_proofs() {
-    local edits=crates/pages/must-fail
+    local edits=crates/pages/must-fail none='done in this run: 0 of the 25 proofs (of crates and of their tests) and 0 of the'
     mv $edits $edits.away
     fails "the gate with a folder of edits renamed" 'must-fail edits, but rt ci says' passes .ci/run
     mv $edits.away $edits
@@ -354,9 +357,9 @@ gate_proofs() {
     fails "an edit that only a limit of the prover refuses" 'refused, 1 of them only by a limit; every' passes .ci/run
     write_rt 0 '' '' 1
     fails "a crate that is not proved" 'edits are not: ' passes .ci/run
-    write_rt 0 '' 'done in this run: 0 of the 25 proofs (of crates and of their tests) and 0 of the 12 must-fail edits; the others are kept'
+    write_rt 0 '' "$none 12 must-fail edits; the others are kept from earlier runs"
     fails "a kept run of fewer edits" 'must-fail edits, but rt ci says: rt: ok; ' passes .ci/run
-    write_rt 0 '' 'done in this run: 0 of the 25 proofs (of crates and of their tests) and 0 of the $edits must-fail edits; the others are kept from earlier runs'
+    write_rt 0 '' "$none \$edits must-fail edits; the others are kept from earlier runs"
     changed "most tests left out where all is kept" Makefile 's/^TESTS = .*/TESTS = test-promises/' 'ci: FAILED: a test did not run' \
         passes .ci/run
     write_rt 0

@@ -4,8 +4,8 @@
 #
 #     tests/controls.sh [CRATE...]        tries the controls of these crates, or of all, in a copy of the repository
 #
-# The copy has no out/ folders: rt takes over what it kept of the same files in another folder of this machine. So it is fast where each crate was
-# checked here before, by `rt all check`.
+# The copy has no out/ folders: rt takes over what it kept of the same files in another folder of this machine. So it is fast where
+# `rt all check` ran here before.
 set -u
 cd "$(dirname "$0")/.." || exit 2
 [ $# -gt 0 ] || set -- $(sed -nE 's/^([a-z][a-z0-9_]*).*/\1/p' crates.txt)

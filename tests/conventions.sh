@@ -1,7 +1,7 @@
 #!/usr/bin/env bash
 # Holds the crates to what docs/PROOFS.md says of names and imports, and the code to its named numbers:
-#   - no file of specs/ and no contract names a proof of this repository: what a reader must believe is closed under imports (Rattle.std.proofs
-#     is the kit's library, words and lemmas alike); nothing is imported that is not used;
+#   - no file of specs/ and no contract names a proof of this repository: what a reader must believe is closed under imports
+#     (Rattle.std.proofs is the kit's library, words and lemmas alike); nothing is imported that is not used;
 #   - no library names the system's runtime: what it prints or reads by, a program hands to it;
 #   - no name stands for two things: a definition in the specs, a type in specs and proofs, a type of the code but for those that are its form of a definition's;
 #   - no number from 3 up stands in the code outside of a constant, a contract or the one match that numbers the refusals, whose names are the
@@ -91,7 +91,8 @@ unused() {
                     $line{$ghost // ""}{$name} = 1 + (substr($text, 0, $at) =~ tr/\n//);
                 }
             };
-            $text =~ s/^ *(ghost )?use ([^;{}*\s]+)(?:(\*)|\{([^{}]*)\})?(?: as ([^;\s]+))?;?[ ]*$/$read->($-[0], $1, $2, defined $3 ? $3 : $4, $5); blank($&)/mge;
+            my $import = qr/^ *(ghost )?use ([^;{}*\s]+)(?:(\*)|\{([^{}]*)\})?(?: as ([^;\s]+))?;?[ ]*$/m;
+            $text =~ s/$import/$read->($-[0], $1, $2, defined $3 ? $3 : $4, $5); blank($&)/ge;
             die "$file: an import that is not read: $1\n" if $text =~ /^ *((?:ghost )?use .*)/m;
             # what is ghost stands in the contracts or in an attribute, unless the file has ghost items too
             my $anywhere = "$text $clauses";
@@ -162,7 +163,8 @@ code() {
 }
 code=$(code $(files '*.rt')) || { echo "conventions: the code could not be read" >&2; exit 1; }
 complain "a library names the system itself" < <(
-    grep <<< "$code" -E '\b(HostRuntime|LibcRuntime|Global)\b|\bextern "C" *\{' | grep -vE "^crates/($(files main.rt | cut -d / -f 2 | paste -sd '|'))/")
+    grep <<< "$code" -E '\b(HostRuntime|LibcRuntime|Global)\b|\bextern "C" *\{' |
+        grep -vE "^crates/($(files main.rt | cut -d / -f 2 | paste -sd '|'))/")
 complain "a number without a name" < <(
     awk -F: -v meant="$(meant)" '
         BEGIN { n = split(meant, rows, "\n"); for (i = 1; i <= n; i++) { split(rows[i], row, " "); allowed[row[1] " " row[2]] } }
@@ -174,7 +176,8 @@ complain "a number without a name" < <(
             while (match(text, /(^|[^A-Za-z0-9_])(0[xbo][0-9A-Fa-f_]+|[0-9][0-9_]*)/)) {
                 number = substr(text, RSTART, RLENGTH); sub(/^[^0-9]/, "", number); gsub(/_/, "", number)
                 text = substr(text, RSTART + RLENGTH)
-                if ((number ~ /^0[xbo]/ || number + 0 > 2) && !(("* " number) in allowed) && !((path[2] " " number) in allowed)) print $1 ":" $2 ": " number
+                if (number !~ /^0[xbo]/ && number + 0 <= 2 || ("* " number) in allowed || (path[2] " " number) in allowed) continue
+                print $1 ":" $2 ": " number
             }
         }' <<< "$code")
 complain "an op, a fate or an outcome without its name" < <(

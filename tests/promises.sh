@@ -1,7 +1,7 @@
 #!/usr/bin/env bash
 # Holds docs/PROMISES.md against the repository, both ways: each name in backquotes is the name of something, in a table of a kind that its
-# column may name, and each must-fail edit is cited in a table. The edit crates/X/must-fail/LABEL.edit has its control crates/X/controls/LABEL.control,
-# or a row that says what it shows without one.
+# column may name, and each must-fail edit is cited in a table. The edit crates/X/must-fail/LABEL.edit has its control
+# crates/X/controls/LABEL.control, or a row that says what it shows without one.
 #
 # tests/promises.sh [FILE]   FILE stands for docs/PROMISES.md
 set -u -o pipefail
