@@ -61,13 +61,13 @@ tests: $(TESTS)
 clean:
 	rm -rf target build out crates/*/out simulator/target tests/differential/target tests/fuzz/reference/target
 
-# ---- the library: `rt lib` proves the crate and those below it, and writes the archive of their code
+# ---- the library: `rt lib` proves the crate and those below it, and writes the archive of their code, for any x86-64 processor
 
 $(LIB): $(PROVED) toolchain.txt
 	.ci/toolchain
 	mkdir -p $(dir $@)
 	rm -f crates/tampermauve_c/out/libtampermauve_c.a
-	(cd crates/tampermauve_c && rt lib) > $(LIB_LOG) 2>&1 || { cat $(LIB_LOG); false; }
+	(cd crates/tampermauve_c && rt lib --cpu x86-64) > $(LIB_LOG) 2>&1 || { cat $(LIB_LOG); false; }
 	cat $(LIB_LOG)
 	cp crates/tampermauve_c/out/libtampermauve_c.a $@
 	sha256sum < $@ >> $(LIB_LOG)

@@ -1,5 +1,5 @@
 // The turns that a plan is listed with: 2 × (steps + n) cycles of 0 .. n − 1.
-ghost use Rattle.std.specs.Prelude.{◌≡◌, ℕ, ◌*◌, ◌+◌, ◌%◌, ◌≤◌, ◌<◌, length, get_or, take};
+ghost use Rattle.std.specs.Prelude.{◌≡◌, ℕ, ◌*◌, ◌%◌, ◌≤◌, ◌<◌, length, get_or, take};
 ghost use Rattle.protocol.specs.Format.{workers_limit, steps_limit};
 ghost use Rattle.protocol.specs.Refusals as protocol;
 ghost use Rattle.protocol.specs.Listing.{turns_by};

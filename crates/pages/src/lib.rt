@@ -2,7 +2,7 @@
 // then its twin. A slot is a worker's place for one page, Page::COUNT × worker + page, and `copied` marks the slots in use.
 #![tactic(auto)]
 
-ghost use Rattle.std.specs.Prelude.{◌≡◌, List, ℕ, ◌+◌, ◌*◌, ◌<◌, ◌≤◌, ◌/◌, ◌%◌, length, drop};
+ghost use Rattle.std.specs.Prelude.{◌≡◌, List, ℕ, ◌+◌, ◌<◌, ◌≤◌, length, drop};
 ghost use Rattle.std.proofs.Math.Seq.{paste};
 ghost use Rattle.protocol.specs.Format.{workers_limit, address_limit};
 ghost use Rattle.protocol.specs.Calls.{memory_length};

@@ -83,7 +83,8 @@ module _ {file : List ℕ} {count n start i low : ℕ} {fates : List ℕ} {b : B
   unfolding later_rule sleep_record_rule
   sleep-rule =
       marked-rule file i some decoded
-      ∙ (ap (λ (o : ℕ). refuse_if (eqb o op_plan_record) protocol.bad_plan (cond (eqb o op_barrier_record) (barrier_record_rule rs r) (cond (eqb o op_sleep_record) (sleep_record_rule rs r) (step_rule rs r)))) op
+      ∙ (ap (λ (o : ℕ). refuse_if (eqb o op_plan_record) protocol.bad_plan
+      (cond (eqb o op_barrier_record) (barrier_record_rule rs r) (cond (eqb o op_sleep_record) (sleep_record_rule rs r) (step_rule rs r)))) op
       ∙ (ap (λ (k : ℕ). refuse_if (((any_of (λ q. is_sleep q && leb b.worker q.worker) rs) || any_of is_step rs) || wrong_sleep k r) protocol.bad_sleep holds) workers
       ∙ ap (λ (t : Bool). refuse_if (t || wrong_sleep n r) protocol.bad_sleep holds)
       (or-fails _ at.no_step ∙ (any-reaches is_sleep (λ q. q.worker) b.worker rs ∙ ap (λ (k : ℕ). ltb b.worker k) at.lowest))))

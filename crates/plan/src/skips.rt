@@ -1,5 +1,5 @@
 // The skips: none may land further than just behind its worker's last step.
-ghost use Rattle.std.specs.Prelude.{◌≡◌, true, ◌+◌, ◌*◌, ◌≤◌, ◌<◌, length};
+ghost use Rattle.std.specs.Prelude.{◌≡◌, true, ◌*◌, ◌≤◌, ◌<◌, length};
 ghost use Rattle.plan.specs.Answer.{verdict_of};
 ghost use Rattle.plan.specs.Reading.{before};
 ghost use Rattle.plan.specs.Skipping.{too_far, SkipChecking};

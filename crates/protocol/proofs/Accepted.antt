@@ -9,7 +9,8 @@ use native.Mathlib.Decide.{dec_lt}
 use lib.Dec.{ltb, eqb}
 use lib.ListN.{length, get_or, drop, length-append, length-map, get_or-eq_default}
 use borrow.Author.Tests.{ltb-false, eqb-true, eqb-false, not-false}
-use Rattle.protocol.specs.Format.{Record, record_length, file_limit, records_limit, plan_mark, known, row_in, record_count, records, is_step, is_skip, workers_in, steps_in, Step, sync, exit, workers_limit}
+use Rattle.protocol.specs.Format.{Record, record_length, file_limit, records_limit, plan_mark, known, row_in, record_count, records, is_step, is_skip}
+use Rattle.protocol.specs.Format.{workers_in, steps_in, Step, sync, exit, workers_limit}
 use Rattle.protocol.specs.Format.{own, skip_zero, skip_nonzero, first_in, size_in, barrier_count, up_to, plan_in, plan_of}
 use Rattle.protocol.specs.Refusals.{Refusal, Rule, Verdict, accepted, refused, ruled, holds, bad_mark, bad_plan, bad_length, wrong_length, wrong_plan, length_rule, plan_rule, later_rule}
 use Rattle.protocol.specs.Refusals.{record_rule, skip_too_far, skip_rule, check_skips, check_records, check}

@@ -12,8 +12,10 @@ use lib.Seq.{get_or-append_seam, take-append_seam}
 use borrow.Author.Tests.{ltb-true, ltb-false, leb-true, leb-false, eqb-true, eqb-false, not-true, not-false, lt-ltb, le-ltb, le-leb, lt-leb, eq-eqb, ne_eqb}
 use Rattle.protocol.specs.Ops.{op_barrier, op_start}
 use Rattle.protocol.specs.Format.{Record, Row, plan_mark, row_in, row_of, known, is_barrier, is_sleep, is_step, workers_in, steps_in, barrier_count, size_limit, steps_limit, workers_limit}
-use Rattle.protocol.specs.Refusals.{Refusal, bad_mark, bad_plan, bad_barrier, bad_sleep, bad_worker, bad_op, bad_operand, too_many_steps, no_size, Verdict, accepted, Rule, holds, refuse_if, ruled, any_of}
-use Rattle.protocol.specs.Refusals.{outside, wrong_plan, plan_rule, misplaced, is_behind_barriers, wrong_barrier, wrong_sleep, starts_nobody, wrong_operand, wrong_worker, lacks_size, barrier_record_rule}
+use Rattle.protocol.specs.Refusals.{Refusal, bad_mark, bad_plan, bad_barrier, bad_sleep, bad_worker, bad_op, bad_operand, too_many_steps, no_size, Verdict}
+use Rattle.protocol.specs.Refusals.{accepted, Rule, holds, refuse_if, ruled, any_of}
+use Rattle.protocol.specs.Refusals.{outside, wrong_plan, plan_rule, misplaced, is_behind_barriers, wrong_barrier, wrong_sleep, starts_nobody, wrong_operand}
+use Rattle.protocol.specs.Refusals.{wrong_worker, lacks_size, barrier_record_rule}
 use Rattle.protocol.specs.Refusals.{sleep_record_rule, operands_outside, step_rule, later_rule, record_rule}
 use Rattle.protocol.specs.WellFormed.{blank, PlanRecord, BarrierRecord, SleepRecord}
 use Rattle.protocol.specs.Conditions.{NoMark, Before, BarrierAmiss, SleepAmiss, UnknownOp, WorkerAmiss, StepBeyond, OperandOutside, SizeMissing, Test, test, tests_of, record_tests, FirstDue}

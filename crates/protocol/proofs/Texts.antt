@@ -2,7 +2,8 @@
 use mathlib.Core.Path.{◌≡◌, refl}
 use mathlib.Core.List.{[], ◌∷◌, map}
 use Rattle.protocol.specs.Format.{record_from, records_from, record_count, records, row_in, known, step_of, size_in, sleepers_in, steps_in, count_from, plan_in}
-use Rattle.protocol.specs.Refusals.{any_of, length_rule, plan_rule, barrier_record_rule, sleep_record_rule, operands_outside, step_rule, later_rule, record_rule, skip_rule, check_skips, check_records, check}
+use Rattle.protocol.specs.Refusals.{any_of, length_rule, plan_rule, barrier_record_rule, sleep_record_rule, operands_outside, step_rule, later_rule}
+use Rattle.protocol.specs.Refusals.{record_rule, skip_rule, check_skips, check_records, check}
 use Rattle.protocol.specs.Pages.{page, no_copies, load_byte, load_word, store_byte, store_word, commit_from}
 use Rattle.protocol.specs.Steps.{new_worker, own_step}
 use Rattle.protocol.specs.Rounds.{keep, queue_of, rule_of, member, freed, apply, new_round}

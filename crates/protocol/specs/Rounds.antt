@@ -209,7 +209,16 @@ rule_of plan queue fates held (start_worker w) = start_rule w (fates w) held
 rule_of plan queue fates held exit = exit_rule held
 
 abbrev pub op_of : Sync → ℕ
-op_of y = elim y [ lock k ↦ op_lock | unlock k ↦ op_unlock | wait c ↦ op_wait | signal c ↦ op_signal | broadcast c ↦ op_broadcast | barrier b ↦ op_barrier | start_worker w ↦ op_start | exit ↦ op_exit ]
+op_of y = elim y [
+  | lock k ↦ op_lock
+  | unlock k ↦ op_unlock
+  | wait c ↦ op_wait
+  | signal c ↦ op_signal
+  | broadcast c ↦ op_broadcast
+  | barrier b ↦ op_barrier
+  | start_worker w ↦ op_start
+  | exit ↦ op_exit
+]
 
 abbrev pub operand_of : Sync → ℕ
 operand_of y = elim y [ lock k ↦ k | unlock k ↦ k | wait c ↦ c | signal c ↦ c | broadcast c ↦ c | barrier b ↦ b | start_worker w ↦ w | exit ↦ 0 ]

@@ -3,7 +3,8 @@
 use Rattle.std.specs.Prelude.{ℕ, suc, ◌*◌, ◌<◌, ◌≤◌, true, ◌≡◌, ◌⊎◌, List, length, get_or, take, drop}
 use Rattle.std.proofs.Math.Option.{some}
 use Rattle.protocol.specs.Ops.{op_plan_record, op_barrier_record, op_sleep_record, op_barrier, op_start}
-use Rattle.protocol.specs.Format.{Record, Row, record_length, file_limit, plan_mark, record_count, records, plan_of, row_of, is_barrier, is_sleep, is_step, is_skip, workers_in, steps_in, workers_limit}
+use Rattle.protocol.specs.Format.{Record, Row, record_length, file_limit, plan_mark, record_count, records, plan_of, row_of, is_barrier, is_sleep, is_step}
+use Rattle.protocol.specs.Format.{is_skip, workers_in, steps_in, workers_limit}
 use Rattle.protocol.specs.Format.{barrier_count, size_limit, steps_limit}
 use Rattle.protocol.specs.Turns.{workers_of}
 use Rattle.protocol.specs.Calls.{Buffers, memory_length, log_length, report_length, work_length, turns_limit}

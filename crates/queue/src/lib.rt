@@ -1,7 +1,7 @@
 // An ordered list of at most eight worker numbers, each below 16, in three numbers. Callers know it by its list alone.
 #![tactic(auto)]
 
-ghost use Rattle.std.specs.Prelude.{◌+◌, ◌≤◌, ◌<◌, true, false, not, ◌≡◌, [], ◌∷◌, ◌++◌, eqb, length, get_or, drop};
+ghost use Rattle.std.specs.Prelude.{◌+◌, ◌≤◌, ◌<◌, not, ◌≡◌, [], ◌∷◌, ◌++◌, eqb, length, get_or, drop};
 ghost use Rattle.protocol.specs.Format.{workers_limit, up_to};
 ghost use Rattle.protocol.specs.Rounds.{keep, without};
 ghost use Rattle.protocol.specs.Turns.{none_left};

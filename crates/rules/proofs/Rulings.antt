@@ -11,7 +11,8 @@ use lib.ListN.{length, get_or, take}
 use Rattle.protocol.specs.Ops.{op_lock, op_unlock, op_wait, op_signal, op_broadcast, op_barrier, op_exit, op_start, syncs_from}
 use Rattle.protocol.specs.Rounds as rounds
 use Rattle.protocol.specs.Format.{synchronises, by_name}
-use Rattle.protocol.specs.Rounds.{member, committed, keeps, gives_at_zero, commits_at_zero, lock_rule, given_back, unlock_rule, wait_rule, signal_rule, broadcast_rule, barrier_rule, start_rule, exit_rule, rule_of}
+use Rattle.protocol.specs.Rounds.{member, committed, keeps, gives_at_zero, commits_at_zero, lock_rule, given_back, unlock_rule, wait_rule, signal_rule}
+use Rattle.protocol.specs.Rounds.{broadcast_rule, barrier_rule, start_rule, exit_rule, rule_of}
 use Rattle.protocol.specs.Steps.{Fate}
 use Rattle.protocol.specs.Turns.{none_left}
 use Rattle.protocol.proofs.Bools.{or-false, or-fails}

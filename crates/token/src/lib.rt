@@ -3,7 +3,7 @@
 
 pub mod passes;
 
-ghost use Rattle.std.specs.Prelude.{true, false, ◌≡◌, ◌+◌, ◌-◌, ◌≤◌, ◌<◌, length, get_or};
+ghost use Rattle.std.specs.Prelude.{◌≡◌, ◌-◌, ◌≤◌, ◌<◌, length, get_or};
 ghost use Rattle.protocol.specs.Format.{workers_limit};
 ghost use Rattle.queue.specs.List.{list_of, Good, Below};
 ghost use Rattle.token.specs.Token.{arrived_can, raised, TurnedOver, FirstAble};

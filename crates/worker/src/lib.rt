@@ -1,7 +1,7 @@
 // A worker's private record, its own steps, and what a synchronising step makes of it.
 #![tactic(auto)]
 
-ghost use Rattle.std.specs.Prelude.{◌≡◌, ◌+◌, ◌<◌, ◌≤◌, slice_index};
+ghost use Rattle.std.specs.Prelude.{◌≡◌, ◌<◌, ◌≤◌, slice_index};
 ghost use Rattle.protocol.specs.Ops.{op_add, op_subtract};
 ghost use Rattle.protocol.specs.Format.{register_count, steps_limit};
 ghost use Rattle.worker.specs.Private.{registers_of, held_as, Replaced, result_of, skip_of, OwnStepping, OwnStepped};

@@ -10,7 +10,9 @@ use Rattle.tampermauve.proofs.tampermauve_run.Goals as goal
 
 pub returns-then-admitted-ne-ACCEPTED : goal.returns-then-admitted-ne-ACCEPTED
 returns-then-admitted-ne-ACCEPTED c =
-    ran c.args.file.now c.args.turns.now ((lent c.args.memory.now c.args.log.now c.args.report.now c.args.work.now)) _ _ (refusal c.args.file.now c.args.turns.now ((lent c.args.memory.now c.args.log.now c.args.report.now c.args.work.now)) _ c.admit-admitted.ensures.code (λ e. omega (arith, e, c.if-admitted-ne-ACCEPTED.true)))
+    ran c.args.file.now c.args.turns.now ((lent c.args.memory.now c.args.log.now c.args.report.now c.args.work.now)) _ _
+    (refusal c.args.file.now c.args.turns.now ((lent c.args.memory.now c.args.log.now c.args.report.now c.args.work.now)) _ c.admit-admitted.ensures.code
+    (λ e. omega (arith, e, c.if-admitted-ne-ACCEPTED.true)))
     (λ e. absurd (omega (arith, e, c.if-admitted-ne-ACCEPTED.true)))
 
 pub perform-requires : goal.perform-requires
@@ -27,7 +29,8 @@ returns c =
     let worked = c.perform.new.work in
     let fit = buffers-fit c.args.file.now c.args.turns.now ((lent c.args.memory.now c.args.log.now c.args.report.now c.args.work.now)) _ h none_here in
     ran c.args.file.now c.args.turns.now ((lent c.args.memory.now c.args.log.now c.args.report.now c.args.work.now)) 0 _
-    (acceptance c.args.file.now c.args.turns.now ((lent c.args.memory.now c.args.log.now c.args.report.now c.args.work.now)) _ (answered c.args.file.now c.args.turns.now ((lent c.args.memory.now c.args.log.now c.args.report.now c.args.work.now)) _ h none_here)
+    (acceptance c.args.file.now c.args.turns.now ((lent c.args.memory.now c.args.log.now c.args.report.now c.args.work.now)) _
+    (answered c.args.file.now c.args.turns.now ((lent c.args.memory.now c.args.log.now c.args.report.now c.args.work.now)) _ h none_here)
     (left-same c.args.file.now c.args.turns.now ((lent c.args.memory.now c.args.log.now c.args.report.now c.args.work.now)).memory c.perform.ensures {long = length worked}
     c.clear.ensures (omega (arith, c.perform.auto, fit.work))))
     (λ z. sum_left c.args.file.now c.args.turns.now ((lent c.args.memory.now c.args.log.now c.args.report.now c.args.work.now)).memory c.perform.ensures {long = length worked}

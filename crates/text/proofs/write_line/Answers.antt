@@ -14,13 +14,15 @@ write_decimal-end-requires c =
 
 pub write_byte-end-requires : goal.write_byte-end-requires
 write_byte-end-requires c =
-    let left_here : Remains c.args.text.now c.args.at (line c.args.numbers.now) c.write_decimal-end.new.text c.write_decimal-end.result (c.separator.result ∷ line (drop (c.loop-next.next + 1) c.args.numbers.now)) =
+    let left_here : Remains c.args.text.now c.args.at (line c.args.numbers.now) c.write_decimal-end.new.text c.write_decimal-end.result
+    (c.separator.result ∷ line (drop (c.loop-next.next + 1) c.args.numbers.now)) =
     separator-left c.args.numbers.now c.loop-next.next _ (less-left (decimal _) _ (number-left _ _ c.loop-next.invariant c.loop-next-test.true) c.write_decimal-end.ensures) c.separator.ensures in
     room-left (_ ∷ []) _ left_here c.requires
 
 pub loop-next-preserved : goal.loop-next-preserved
 loop-next-preserved c =
-    let left_here : Remains c.args.text.now c.args.at (line c.args.numbers.now) c.write_decimal-end.new.text c.write_decimal-end.result (c.separator.result ∷ line (drop (c.loop-next.next + 1) c.args.numbers.now)) =
+    let left_here : Remains c.args.text.now c.args.at (line c.args.numbers.now) c.write_decimal-end.new.text c.write_decimal-end.result
+    (c.separator.result ∷ line (drop (c.loop-next.next + 1) c.args.numbers.now)) =
     separator-left c.args.numbers.now c.loop-next.next _ (less-left (decimal _) _ (number-left _ _ c.loop-next.invariant c.loop-next-test.true) c.write_decimal-end.ensures) c.separator.ensures in
     less-left (_ ∷ []) _ left_here c.write_byte-end.ensures
 

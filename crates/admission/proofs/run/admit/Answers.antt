@@ -16,7 +16,8 @@ code-code-requires c = λ f i e. check-index c.args.file.now i f (sym c.check-ch
 
 pub returns-then-names_nobody : goal.returns-then-names_nobody
 returns-then-names_nobody c =
-    let decides_here : (v : Verdict) (s : Bool) → check c.args.file.now ≡ v → names_nobody (workers_of (plan_of c.args.file.now)) c.args.turns.now ≡ s → code_of (verdict_by false false v s) ≡ answer_by c.args.file.now c.args.turns.now (unfit c.args.lent) =
+    let decides_here : (v : Verdict) (s : Bool) → check c.args.file.now ≡ v → names_nobody (workers_of (plan_of c.args.file.now)) c.args.turns.now ≡ s
+    → code_of (verdict_by false false v s) ≡ answer_by c.args.file.now c.args.turns.now (unfit c.args.lent) =
     λ v s. tests c.args.file.now c.args.turns.now c.args.lent false false s v (sym c.misfit-unfit.ensures ∙ c.if-unfit.false) (search rules) in
     let ok_here : check c.args.file.now ≡ accepted =
     good c.args.file.now c.check-checked.ensures c.code-code.ensures c.if-code-ne-ACCEPTED.false in
@@ -28,7 +29,8 @@ pub returns : goal.returns
 returns c =
     let ok_here : check c.args.file.now ≡ accepted =
     good c.args.file.now c.check-checked.ensures c.code-code.ensures c.if-code-ne-ACCEPTED.false in
-    let decides_here : (v : Verdict) (s : Bool) → check c.args.file.now ≡ v → names_nobody (workers_of (plan_of c.args.file.now)) c.args.turns.now ≡ s → code_of (verdict_by false false v s) ≡ answer_by c.args.file.now c.args.turns.now (unfit c.args.lent) =
+    let decides_here : (v : Verdict) (s : Bool) → check c.args.file.now ≡ v → names_nobody (workers_of (plan_of c.args.file.now)) c.args.turns.now ≡ s
+    → code_of (verdict_by false false v s) ≡ answer_by c.args.file.now c.args.turns.now (unfit c.args.lent) =
     λ v s. tests c.args.file.now c.args.turns.now c.args.lent false false s v (sym c.misfit-unfit.ensures ∙ c.if-unfit.false) (search rules) in
     let decide_here : (s : Bool) → c.names_nobody.result ≡ s → code_of (verdict_by false false accepted s) ≡ answer_by c.args.file.now c.args.turns.now (unfit c.args.lent) =
     λ s e. decides_here accepted s ok_here (stray-same c.args.file.now c.args.turns.now c.check-checked.ensures ok_here ∙ (sym c.names_nobody.ensures ∙ e)) in

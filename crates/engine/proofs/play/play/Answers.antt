@@ -21,17 +21,20 @@ loop-i-init c =
 pub sync-t-requires : goal.sync-t-requires
 sync-t-requires c =
     let w = c.play_own-own.ensures in
-    syncing c.requires (went_on c.requires ((kept_own c.loop-i.places c.loop-i.held c.loop-i.registers c.loop-i.can c.loop-i.copied c.loop-i.memory c.loop-i.work)) c.loop-i.fates c.loop-i.log c.loop-i.invariant.so w) c.if-i-turns.true (w.stopped c.if-i-turns.true c.loop-i.fates c.loop-i.log)
+    syncing c.requires (went_on c.requires ((kept_own c.loop-i.places c.loop-i.held c.loop-i.registers c.loop-i.can c.loop-i.copied c.loop-i.memory
+    c.loop-i.work)) c.loop-i.fates c.loop-i.log c.loop-i.invariant.so w) c.if-i-turns.true (w.stopped c.if-i-turns.true c.loop-i.fates c.loop-i.log)
 
 pub returns-then-is_empty : goal.returns-then-is_empty
 returns-then-is_empty c =
     ends-here c.requires
-    (stands_on c.requires ((kept_own c.loop-i.places c.loop-i.held c.loop-i.registers c.loop-i.can c.loop-i.copied c.loop-i.memory c.loop-i.work)) c.loop-i.fates c.loop-i.log c.loop-i.invariant.so c.play_own-own.ensures c.if-i-turns.true c.sync-t.ensures)
+    (stands_on c.requires ((kept_own c.loop-i.places c.loop-i.held c.loop-i.registers c.loop-i.can c.loop-i.copied c.loop-i.memory c.loop-i.work))
+    c.loop-i.fates c.loop-i.log c.loop-i.invariant.so c.play_own-own.ensures c.if-i-turns.true c.sync-t.ensures)
     c.is_empty.ensures c.if-is_empty.true
 
 pub onward-i-requires : goal.onward-i-requires
 onward-i-requires c =
-    let stands = stands_on c.requires ((kept_own c.loop-i.places c.loop-i.held c.loop-i.registers c.loop-i.can c.loop-i.copied c.loop-i.memory c.loop-i.work)) c.loop-i.fates c.loop-i.log c.loop-i.invariant.so c.play_own-own.ensures c.if-i-turns.true c.sync-t.ensures in
+    let stands = stands_on c.requires ((kept_own c.loop-i.places c.loop-i.held c.loop-i.registers c.loop-i.can c.loop-i.copied c.loop-i.memory c.loop-i.work))
+    c.loop-i.fates c.loop-i.log c.loop-i.invariant.so c.play_own-own.ensures c.if-i-turns.true c.sync-t.ensures in
     omega (arith, c.first.ensures, first_small c.requires stands (some_left (list_of c.sync-t.result.lists.list) c.is_empty.ensures c.if-is_empty.false))
 
 pub loop-i-smaller-then-i-turns : goal.loop-i-smaller-then-i-turns
@@ -46,8 +49,10 @@ loop-i-smaller-then-i-turns c =
     (λ e.
     omega (
       arith,
-      rises-on c.requires ((kept_own c.loop-i.places c.loop-i.held c.loop-i.registers c.loop-i.can c.loop-i.copied c.loop-i.memory c.loop-i.work)) c.loop-i.fates c.loop-i.log so on c.if-i-turns.true c.sync-t.ensures,
-      few-moves c.requires (stands_on c.requires ((kept_own c.loop-i.places c.loop-i.held c.loop-i.registers c.loop-i.can c.loop-i.copied c.loop-i.memory c.loop-i.work)) c.loop-i.fates c.loop-i.log so on c.if-i-turns.true c.sync-t.ensures),
+      rises-on c.requires ((kept_own c.loop-i.places c.loop-i.held c.loop-i.registers c.loop-i.can c.loop-i.copied c.loop-i.memory c.loop-i.work))
+          c.loop-i.fates c.loop-i.log so on c.if-i-turns.true c.sync-t.ensures,
+      few-moves c.requires (stands_on c.requires ((kept_own c.loop-i.places c.loop-i.held c.loop-i.registers c.loop-i.can c.loop-i.copied c.loop-i.memory
+          c.loop-i.work)) c.loop-i.fates c.loop-i.log so on c.if-i-turns.true c.sync-t.ensures),
       one_at_most turns can c.onward-i.result,
     ))
     (λ e. omega (arith, c.if-i-turns.true, on.forward, c.onward-i.ensures.listed e))
@@ -55,7 +60,8 @@ loop-i-smaller-then-i-turns c =
 pub loop-i-preserved-then-i-turns : goal.loop-i-preserved-then-i-turns
 loop-i-preserved-then-i-turns c =
     goes_on c.requires
-    (stands_on c.requires ((kept_own c.loop-i.places c.loop-i.held c.loop-i.registers c.loop-i.can c.loop-i.copied c.loop-i.memory c.loop-i.work)) c.loop-i.fates c.loop-i.log c.loop-i.invariant.so c.play_own-own.ensures c.if-i-turns.true c.sync-t.ensures)
+    (stands_on c.requires ((kept_own c.loop-i.places c.loop-i.held c.loop-i.registers c.loop-i.can c.loop-i.copied c.loop-i.memory c.loop-i.work))
+    c.loop-i.fates c.loop-i.log c.loop-i.invariant.so c.play_own-own.ensures c.if-i-turns.true c.sync-t.ensures)
     c.onward-i.ensures
 
 pub loop-i-smaller : goal.loop-i-smaller
@@ -67,14 +73,19 @@ loop-i-smaller c =
     falls _ {right = 2 * (2065 - c.loop-i.t.counts.moves) + unpicked turns c.loop-i.can c.loop-i.i}
     {right' = 2 * (2065 - c.play_own-own.result.moves) + unpicked turns c.loop-i.can c.again-i.result}
     {left = length turns - c.loop-i.i} {left' = length turns - c.again-i.result}
-    (λ e. right-falls _ _ (again-moves c.requires e c.again-i.ensures) (no-fewer c.requires ((kept_own c.loop-i.places c.loop-i.held c.loop-i.registers c.loop-i.can c.loop-i.copied c.loop-i.memory c.loop-i.work)) c.loop-i.fates c.loop-i.log so on)
-    (few-moves c.requires (went_on c.requires ((kept_own c.loop-i.places c.loop-i.held c.loop-i.registers c.loop-i.can c.loop-i.copied c.loop-i.memory c.loop-i.work)) c.loop-i.fates c.loop-i.log so on)) (one_at_most turns c.loop-i.can c.loop-i.i)
-    (λ z. one-at-least c.requires ((kept_own c.loop-i.places c.loop-i.held c.loop-i.registers c.loop-i.can c.loop-i.copied c.loop-i.memory c.loop-i.work)) c.loop-i.fates c.loop-i.log so on (omega (arith, here, c.if-i-turns.false)) (sure turns c.loop-i.can c.loop-i.i here z)))
+    (λ e. right-falls _ _ (again-moves c.requires e c.again-i.ensures)
+    (no-fewer c.requires ((kept_own c.loop-i.places c.loop-i.held c.loop-i.registers c.loop-i.can c.loop-i.copied c.loop-i.memory c.loop-i.work))
+    c.loop-i.fates c.loop-i.log so on)
+    (few-moves c.requires (went_on c.requires ((kept_own c.loop-i.places c.loop-i.held c.loop-i.registers c.loop-i.can c.loop-i.copied c.loop-i.memory
+    c.loop-i.work)) c.loop-i.fates c.loop-i.log so on)) (one_at_most turns c.loop-i.can c.loop-i.i)
+    (λ z. one-at-least c.requires ((kept_own c.loop-i.places c.loop-i.held c.loop-i.registers c.loop-i.can c.loop-i.copied c.loop-i.memory c.loop-i.work))
+    c.loop-i.fates c.loop-i.log so on (omega (arith, here, c.if-i-turns.false)) (sure turns c.loop-i.can c.loop-i.i here z)))
     (λ e. omega (arith, here, c.if-i-turns.false, c.again-i.ensures.listed e))
 
 pub loop-i-preserved : goal.loop-i-preserved
 loop-i-preserved c =
-    goes-again c.requires (went_on c.requires ((kept_own c.loop-i.places c.loop-i.held c.loop-i.registers c.loop-i.can c.loop-i.copied c.loop-i.memory c.loop-i.work)) c.loop-i.fates c.loop-i.log c.loop-i.invariant.so c.play_own-own.ensures) c.again-i.ensures
+    goes-again c.requires (went_on c.requires ((kept_own c.loop-i.places c.loop-i.held c.loop-i.registers c.loop-i.can c.loop-i.copied c.loop-i.memory
+    c.loop-i.work)) c.loop-i.fates c.loop-i.log c.loop-i.invariant.so c.play_own-own.ensures) c.again-i.ensures
 
 pub returns : goal.returns
 returns c = all-played c.requires c.loop-i.invariant.so (omega (arith, c.loop-i-test.false)) c.loop-i.invariant.nobody

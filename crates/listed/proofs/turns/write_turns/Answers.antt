@@ -44,4 +44,5 @@ fill-requires-clause-n_le_workers_limit c =
 pub returns-clause-listed : goal.returns-clause-listed
 returns-clause-listed c =
     let layout_here : Measured c.args.file.now c.check-checked.result.layout =
-    measured _ _ c.check-checked.ensures (ap verdict_of c.in-Accepted.is) in all_listed _ _ _ _ layout_here c.turn_count-count.ensures.value (omega (arith, c.turn_count-count.ensures.upper_bound, c.fill.ensures.turns_len_unchanged, c.requires)) c.fill.ensures.by_index
+    measured _ _ c.check-checked.ensures (ap verdict_of c.in-Accepted.is) in all_listed _ _ _ _ layout_here c.turn_count-count.ensures.value
+    (omega (arith, c.turn_count-count.ensures.upper_bound, c.fill.ensures.turns_len_unchanged, c.requires)) c.fill.ensures.by_index

@@ -62,7 +62,8 @@ returns-in-Refused c =
     (length-right c.args.file.now fine_here).some in
     let first_read_here : decoded_of (file_record c.args.file.now 0) ≡ Read c.in-Read.first =
     sym c.decode.ensures ∙ c.in-Read.is in
-    let from_barriers_here : protocol.check c.args.file.now ≡ both (verdict_of c.read_barriers-barriers.result.verdict) (verdict_from c.args.file.now ((length c.args.file.now / record_length)) c.read_barriers-barriers.result.next) =
+    let from_barriers_here : protocol.check c.args.file.now ≡ both (verdict_of c.read_barriers-barriers.result.verdict)
+    (verdict_from c.args.file.now ((length c.args.file.now / record_length)) c.read_barriers-barriers.result.next) =
     (by_first c.args.file.now fine_here some_here (plan-rule c.args.file.now first_read_here (sym c.bad_plan.ensures ∙ c.if-bad_plan.false))) ∙ sym c.read_barriers-barriers.ensures.verdict in
     let f = c.args.file.now in
     turned_down c.refused-in-Refused.ensures
@@ -89,10 +90,12 @@ returns-in-Refused-verdict c =
     (length-right c.args.file.now fine_here).some in
     let first_read_here : decoded_of (file_record c.args.file.now 0) ≡ Read c.in-Read.first =
     sym c.decode.ensures ∙ c.in-Read.is in
-    let from_barriers_here : protocol.check c.args.file.now ≡ both (verdict_of c.read_barriers-barriers.result.verdict) (verdict_from c.args.file.now ((length c.args.file.now / record_length)) c.read_barriers-barriers.result.next) =
+    let from_barriers_here : protocol.check c.args.file.now ≡ both (verdict_of c.read_barriers-barriers.result.verdict)
+    (verdict_from c.args.file.now ((length c.args.file.now / record_length)) c.read_barriers-barriers.result.next) =
     (by_first c.args.file.now fine_here some_here (plan-rule c.args.file.now first_read_here (sym c.bad_plan.ensures ∙ c.if-bad_plan.false))) ∙ sym c.read_barriers-barriers.ensures.verdict in
     let from_sleepers_here : protocol.check c.args.file.now ≡ verdict_from c.args.file.now (length c.args.file.now / record_length) c.read_barriers-barriers.result.next =
-    from_barriers_here ∙ ap (λ (v : Verdict). both (verdict_of v) (verdict_from c.args.file.now (length c.args.file.now / record_length) c.read_barriers-barriers.result.next)) c.in_default-verdict.is in
+    from_barriers_here ∙ ap (λ (v : Verdict). both (verdict_of v) (verdict_from c.args.file.now (length c.args.file.now / record_length)
+    c.read_barriers-barriers.result.next)) c.in_default-verdict.is in
     turned_down c.refused-in-Refused-verdict.ensures ((from_sleepers_here ∙ sym c.read_sleepers-sleepers.ensures.verdict
     ∙ ap (λ (v : Verdict). both (verdict_of v) (verdict_from c.args.file.now (length c.args.file.now / record_length) c.read_sleepers-sleepers.result.next)) c.in-Refused-verdict.is))
 
@@ -105,7 +108,8 @@ read_steps-verdict-requires-clause-steps_so_far c =
     let same_worker_here : c.in-Read.first.worker ≡ (file_record c.args.file.now 0).worker =
     sym (ap (λ r. r.worker) (told (file_record c.args.file.now 0) first_read_here)) in
     let coming_here : SleepersComing c.args.file.now (length c.args.file.now / record_length) c.in-Read.first.worker c.read_barriers-barriers.result.next =
-    sleepers-coming c.read_barriers-barriers.ensures (ap verdict_of c.in_default-verdict.is) (sym same_worker_here) taken_here.most in steps-so-far c.read_barriers-barriers.ensures coming_here c.read_sleepers-sleepers.ensures (ap verdict_of c.in_default-verdict-2.is)
+    sleepers-coming c.read_barriers-barriers.ensures (ap verdict_of c.in_default-verdict.is) (sym same_worker_here) taken_here.most in steps-so-far
+    c.read_barriers-barriers.ensures coming_here c.read_sleepers-sleepers.ensures (ap verdict_of c.in_default-verdict-2.is)
 
 pub returns-in-Refused-verdict-2 : goal.returns-in-Refused-verdict-2
 unfolding record_count
@@ -116,12 +120,15 @@ returns-in-Refused-verdict-2 c =
     (length-right c.args.file.now fine_here).some in
     let first_read_here : decoded_of (file_record c.args.file.now 0) ≡ Read c.in-Read.first =
     sym c.decode.ensures ∙ c.in-Read.is in
-    let from_barriers_here : protocol.check c.args.file.now ≡ both (verdict_of c.read_barriers-barriers.result.verdict) (verdict_from c.args.file.now ((length c.args.file.now / record_length)) c.read_barriers-barriers.result.next) =
+    let from_barriers_here : protocol.check c.args.file.now ≡ both (verdict_of c.read_barriers-barriers.result.verdict)
+    (verdict_from c.args.file.now ((length c.args.file.now / record_length)) c.read_barriers-barriers.result.next) =
     (by_first c.args.file.now fine_here some_here (plan-rule c.args.file.now first_read_here (sym c.bad_plan.ensures ∙ c.if-bad_plan.false))) ∙ sym c.read_barriers-barriers.ensures.verdict in
     let from_sleepers_here : protocol.check c.args.file.now ≡ verdict_from c.args.file.now (length c.args.file.now / record_length) c.read_barriers-barriers.result.next =
-    from_barriers_here ∙ ap (λ (v : Verdict). both (verdict_of v) (verdict_from c.args.file.now (length c.args.file.now / record_length) c.read_barriers-barriers.result.next)) c.in_default-verdict.is in
+    from_barriers_here ∙ ap (λ (v : Verdict). both (verdict_of v) (verdict_from c.args.file.now (length c.args.file.now / record_length)
+    c.read_barriers-barriers.result.next)) c.in_default-verdict.is in
     turned_down c.refused-in-Refused-verdict-2.ensures (((from_sleepers_here ∙ sym c.read_sleepers-sleepers.ensures.verdict
-    ∙ ap (λ (v : Verdict). both (verdict_of v) (verdict_from c.args.file.now (length c.args.file.now / record_length) c.read_sleepers-sleepers.result.next)) c.in_default-verdict-2.is) ∙ sym c.read_steps-verdict.ensures.verdict
+    ∙ ap (λ (v : Verdict). both (verdict_of v) (verdict_from c.args.file.now (length c.args.file.now / record_length) c.read_sleepers-sleepers.result.next))
+    c.in_default-verdict-2.is) ∙ sym c.read_steps-verdict.ensures.verdict
     ∙ ap (λ (v : Verdict). both (verdict_of v) (protocol.check_skips 0 (before c.args.file.now (length c.args.file.now / record_length)))) c.in-Refused-verdict-2.is))
 
 pub returns : goal.returns
@@ -135,14 +142,17 @@ returns c =
     sym c.bad_length.ensures ∙ c.if-bad_length.false in
     let some_here : 1 ≤ ((length c.args.file.now / record_length)) =
     (length-right c.args.file.now fine_here).some in
-    let from_barriers_here : protocol.check c.args.file.now ≡ both (verdict_of c.read_barriers-barriers.result.verdict) (verdict_from c.args.file.now ((length c.args.file.now / record_length)) c.read_barriers-barriers.result.next) =
+    let from_barriers_here : protocol.check c.args.file.now ≡ both (verdict_of c.read_barriers-barriers.result.verdict)
+    (verdict_from c.args.file.now ((length c.args.file.now / record_length)) c.read_barriers-barriers.result.next) =
     (by_first c.args.file.now fine_here some_here (plan-rule c.args.file.now first_read_here (sym c.bad_plan.ensures ∙ c.if-bad_plan.false))) ∙ sym c.read_barriers-barriers.ensures.verdict in
     let from_sleepers_here : protocol.check c.args.file.now ≡ verdict_from c.args.file.now (length c.args.file.now / record_length) c.read_barriers-barriers.result.next =
-    from_barriers_here ∙ ap (λ (v : Verdict). both (verdict_of v) (verdict_from c.args.file.now (length c.args.file.now / record_length) c.read_barriers-barriers.result.next)) c.in_default-verdict.is in
+    from_barriers_here ∙ ap (λ (v : Verdict). both (verdict_of v) (verdict_from c.args.file.now (length c.args.file.now / record_length)
+    c.read_barriers-barriers.result.next)) c.in_default-verdict.is in
     let ok = c.in_default-verdict-3.is in
     record {
       verdict = c.check_skips-verdict.ensures ∙ sym (((from_sleepers_here ∙ sym c.read_sleepers-sleepers.ensures.verdict
-          ∙ ap (λ (v : Verdict). both (verdict_of v) (verdict_from c.args.file.now (length c.args.file.now / record_length) c.read_sleepers-sleepers.result.next)) c.in_default-verdict-2.is) ∙ sym c.read_steps-verdict.ensures.verdict
+          ∙ ap (λ (v : Verdict). both (verdict_of v) (verdict_from c.args.file.now (length c.args.file.now / record_length)
+          c.read_sleepers-sleepers.result.next)) c.in_default-verdict-2.is) ∙ sym c.read_steps-verdict.ensures.verdict
           ∙ ap (λ (v : Verdict). both (verdict_of v) (protocol.check_skips 0 (before c.args.file.now (length c.args.file.now / record_length)))) ok));
       layout = λ q.
           laid_out (c.read_steps-verdict.ensures.read (ap verdict_of ok)) some_here same_worker_here c.read_barriers-barriers.ensures.head.size

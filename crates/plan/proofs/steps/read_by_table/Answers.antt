@@ -33,10 +33,20 @@ returns-in_default c =
 pub returns-then-at-eq-ROW_COUNT : goal.returns-then-at-eq-ROW_COUNT
 returns-then-at-eq-ROW_COUNT c =
     let one_step_here : OneStep c.args.file.now c.loop-i.i c.args.n c.args.sizes.now (sleepers_in (before c.args.file.now c.args.start)) c.loop-i.opened c.loop-i.firsts c.in-Read.r =
-    let so = c.requires.steps_so_far in let inv = c.loop-i.invariant in record { kept = inv.3; no_barrier = λ z. subst⁻¹ (λ (j : ℕ). is_barrier (file_record c.args.file.now j) ≡ true → protocol.any_of is_sleep (before c.args.file.now j) ≡ true) (inv.2 z) (so.no_barrier (omega (arith, inv.2 z, c.loop-i-test.true))); no_sleep = λ z. subst⁻¹ (λ (j : ℕ). is_sleep (file_record c.args.file.now j) ≡ false) (inv.2 z) (so.no_sleep (omega (arith, inv.2 z, c.loop-i-test.true))); decoded = sym c.decode.ensures ∙ c.in-Read.is } in
+    let so = c.requires.steps_so_far in let inv = c.loop-i.invariant in record {
+      kept = inv.3;
+      no_barrier = λ z. subst⁻¹ (λ (j : ℕ). is_barrier (file_record c.args.file.now j) ≡ true
+          → protocol.any_of is_sleep (before c.args.file.now j) ≡ true) (inv.2 z) (so.no_barrier (omega (arith, inv.2 z, c.loop-i-test.true)));
+      no_sleep = λ z.
+          subst⁻¹ (λ (j : ℕ). is_sleep (file_record c.args.file.now j) ≡ false) (inv.2 z) (so.no_sleep (omega (arith, inv.2 z, c.loop-i-test.true)));
+      decoded =
+          sym c.decode.ensures ∙ c.in-Read.is;
+    } in
     record {
       verdict =
-          (sym (verdict-step _ _ _ c.loop-i-test.true (same-rule one_step_here ∙ (no-step-rule one_step_here (no_row c.in-Read.r.op (sym c.place-at.ensures ∙ c.if-at-eq-ROW_COUNT.true)) ∙ ap some (sym c.no_step.ensures)))) ∙ c.loop-i.invariant.4);
+          (sym (verdict-step _ _ _ c.loop-i-test.true (same-rule one_step_here
+          ∙ (no-step-rule one_step_here (no_row c.in-Read.r.op (sym c.place-at.ensures ∙ c.if-at-eq-ROW_COUNT.true)) ∙ ap some (sym c.no_step.ensures))))
+          ∙ c.loop-i.invariant.4);
       size = c.loop-i.invariant.3.size;
       read = λ q. not-refused _ _ q;
     }
@@ -100,7 +110,15 @@ step_rule-rule-requires-clause-by_index c =
 pub returns-in-Refuses : goal.returns-in-Refuses
 returns-in-Refuses c =
     let one_step_here : OneStep c.args.file.now c.loop-i.i c.args.n c.args.sizes.now (sleepers_in (before c.args.file.now c.args.start)) c.loop-i.opened c.loop-i.firsts c.in-Read.r =
-    let so = c.requires.steps_so_far in let inv = c.loop-i.invariant in record { kept = inv.3; no_barrier = λ z. subst⁻¹ (λ (j : ℕ). is_barrier (file_record c.args.file.now j) ≡ true → protocol.any_of is_sleep (before c.args.file.now j) ≡ true) (inv.2 z) (so.no_barrier (omega (arith, inv.2 z, c.loop-i-test.true))); no_sleep = λ z. subst⁻¹ (λ (j : ℕ). is_sleep (file_record c.args.file.now j) ≡ false) (inv.2 z) (so.no_sleep (omega (arith, inv.2 z, c.loop-i-test.true))); decoded = sym c.decode.ensures ∙ c.in-Read.is } in
+    let so = c.requires.steps_so_far in let inv = c.loop-i.invariant in record {
+      kept = inv.3;
+      no_barrier = λ z. subst⁻¹ (λ (j : ℕ). is_barrier (file_record c.args.file.now j) ≡ true
+          → protocol.any_of is_sleep (before c.args.file.now j) ≡ true) (inv.2 z) (so.no_barrier (omega (arith, inv.2 z, c.loop-i-test.true)));
+      no_sleep = λ z.
+          subst⁻¹ (λ (j : ℕ). is_sleep (file_record c.args.file.now j) ≡ false) (inv.2 z) (so.no_sleep (omega (arith, inv.2 z, c.loop-i-test.true)));
+      decoded =
+          sym c.decode.ensures ∙ c.in-Read.is;
+    } in
     record {
       verdict = (sym (verdict-step _ _ _ c.loop-i-test.true (same-rule one_step_here ∙ (sym c.step_rule-rule.ensures ∙ ap rule_as c.in-Refuses.is))) ∙ c.loop-i.invariant.4);
       size = c.loop-i.invariant.3.size;
@@ -112,7 +130,15 @@ overflow_add-firsts c =
     let passed_here : (kept_rule c.args.n c.loop-i.opened c.args.sizes.now c.loop-i.firsts c.loop-i.i c.in-Read.r) ≡ protocol.holds =
     sym c.step_rule-rule.ensures ∙ ap rule_as c.in_default-rule.is in
     let one_step_here : OneStep c.args.file.now c.loop-i.i c.args.n c.args.sizes.now (sleepers_in (before c.args.file.now c.args.start)) c.loop-i.opened c.loop-i.firsts c.in-Read.r =
-    let so = c.requires.steps_so_far in let inv = c.loop-i.invariant in record { kept = inv.3; no_barrier = λ z. subst⁻¹ (λ (j : ℕ). is_barrier (file_record c.args.file.now j) ≡ true → protocol.any_of is_sleep (before c.args.file.now j) ≡ true) (inv.2 z) (so.no_barrier (omega (arith, inv.2 z, c.loop-i-test.true))); no_sleep = λ z. subst⁻¹ (λ (j : ℕ). is_sleep (file_record c.args.file.now j) ≡ false) (inv.2 z) (so.no_sleep (omega (arith, inv.2 z, c.loop-i-test.true))); decoded = sym c.decode.ensures ∙ c.in-Read.is } in
+    let so = c.requires.steps_so_far in let inv = c.loop-i.invariant in record {
+      kept = inv.3;
+      no_barrier = λ z. subst⁻¹ (λ (j : ℕ). is_barrier (file_record c.args.file.now j) ≡ true
+          → protocol.any_of is_sleep (before c.args.file.now j) ≡ true) (inv.2 z) (so.no_barrier (omega (arith, inv.2 z, c.loop-i-test.true)));
+      no_sleep = λ z.
+          subst⁻¹ (λ (j : ℕ). is_sleep (file_record c.args.file.now j) ≡ false) (inv.2 z) (so.no_sleep (omega (arith, inv.2 z, c.loop-i-test.true)));
+      decoded =
+          sym c.decode.ensures ∙ c.in-Read.is;
+    } in
     let after_here : StepsKept c.args.file.now (c.loop-i.i + 1) c.args.n c.args.sizes.now (sleepers_in (before c.args.file.now c.args.start)) (c.in-Read.r.worker + 1) c.open_workers.new.firsts =
     step-more one_step_here passed_here c.open_workers.ensures in
     omega (arith, begun-before after_here c.in-Read.r.worker (omega arith), c.loop-i-test.true, c.requires.count_in_bounds)
@@ -122,7 +148,15 @@ loop-i-preserved c =
     let passed_here : (kept_rule c.args.n c.loop-i.opened c.args.sizes.now c.loop-i.firsts c.loop-i.i c.in-Read.r) ≡ protocol.holds =
     sym c.step_rule-rule.ensures ∙ ap rule_as c.in_default-rule.is in
     let one_step_here : OneStep c.args.file.now c.loop-i.i c.args.n c.args.sizes.now (sleepers_in (before c.args.file.now c.args.start)) c.loop-i.opened c.loop-i.firsts c.in-Read.r =
-    let so = c.requires.steps_so_far in let inv = c.loop-i.invariant in record { kept = inv.3; no_barrier = λ z. subst⁻¹ (λ (j : ℕ). is_barrier (file_record c.args.file.now j) ≡ true → protocol.any_of is_sleep (before c.args.file.now j) ≡ true) (inv.2 z) (so.no_barrier (omega (arith, inv.2 z, c.loop-i-test.true))); no_sleep = λ z. subst⁻¹ (λ (j : ℕ). is_sleep (file_record c.args.file.now j) ≡ false) (inv.2 z) (so.no_sleep (omega (arith, inv.2 z, c.loop-i-test.true))); decoded = sym c.decode.ensures ∙ c.in-Read.is } in
+    let so = c.requires.steps_so_far in let inv = c.loop-i.invariant in record {
+      kept = inv.3;
+      no_barrier = λ z. subst⁻¹ (λ (j : ℕ). is_barrier (file_record c.args.file.now j) ≡ true
+          → protocol.any_of is_sleep (before c.args.file.now j) ≡ true) (inv.2 z) (so.no_barrier (omega (arith, inv.2 z, c.loop-i-test.true)));
+      no_sleep = λ z.
+          subst⁻¹ (λ (j : ℕ). is_sleep (file_record c.args.file.now j) ≡ false) (inv.2 z) (so.no_sleep (omega (arith, inv.2 z, c.loop-i-test.true)));
+      decoded =
+          sym c.decode.ensures ∙ c.in-Read.is;
+    } in
     let below_here : c.in-Read.r.worker < c.args.n =
     worker-below one_step_here passed_here in
     let after_here : StepsKept c.args.file.now (c.loop-i.i + 1) c.args.n c.args.sizes.now (sleepers_in (before c.args.file.now c.args.start)) (c.in-Read.r.worker + 1) c.open_workers.new.firsts =

@@ -20,7 +20,8 @@ pub perform-requires : goal.perform-requires
 perform-requires c =
     let ok_here : check c.args.file.now ≡ accepted =
     good c.args.file.now c.check-checked.ensures c.code-code.ensures c.if-code-ne-ACCEPTED.false in
-    performs c.args.file.now ((lent c.args.memory.now c.args.log.now c.args.report.now c.args.work.now)) c.requires.1 c.requires.0 ok_here (c.check-checked.ensures.layout (c.check-checked.ensures.verdict ∙ ok_here))
+    performs c.args.file.now ((lent c.args.memory.now c.args.log.now c.args.report.now c.args.work.now)) c.requires.1 c.requires.0 ok_here
+    (c.check-checked.ensures.layout (c.check-checked.ensures.verdict ∙ ok_here))
 
 pub returns : goal.returns
 returns c =

@@ -16,4 +16,5 @@ pub loop-k-preserved : goal.loop-k-preserved
 loop-k-preserved c =
     let taken = c.loop-k-test.true in
     let long = c.long_at in
-    goes_on (all-sized c.requires.evenly_lent c.requires.work_len) c.loop-k.invariant taken c.run_plan-answer.ensures refl long.ensures (omega arith) (omega (arith, c.run_plan-answer.auto, c.loop-k.invariant.sized.work))
+    goes_on (all-sized c.requires.evenly_lent c.requires.work_len) c.loop-k.invariant taken c.run_plan-answer.ensures refl long.ensures (omega arith)
+    (omega (arith, c.run_plan-answer.auto, c.loop-k.invariant.sized.work))
