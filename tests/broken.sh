@@ -355,6 +355,9 @@ gate_proofs() {
     fails "a bad edit" 'refused, 1 bad; every' passes .ci/run
     write_rt 0 ', 1 of them only by a limit'
     fails "an edit that only a limit of the prover refuses" 'refused, 1 of them only by a limit; every' passes .ci/run
+    write_rt 0
+    sed -i 's/^    echo "== pages"$/&; echo "rt: must-fail pages\/x.edit: refused, as it must be (only because a proof file names what the edit took away, ..): y"/' "$work/bin/rt"
+    fails "an edit that is refused for a name alone" 'ci: FAILED: an edit is refused for a name that it takes away' passes .ci/run
     write_rt 0 '' '' 1
     fails "a crate that is not proved" 'edits are not: ' passes .ci/run
     write_rt 0 '' "$none 12 must-fail edits; the others are kept from earlier runs"
