@@ -1,16 +1,14 @@
--- The laws of picking, which puts those of the workers from 0 on that pass a test on a queue, in their order.
+-- Keeping those of a list that pass a test: how many, and one more at the end.
 -- Assumes nothing.
 use Prim.Native.Nat.{ℕ, ◌+◌, ◌≤◌}
 use native.Mathlib.Omega.{arith}
 use mathlib.Core.Bool.{Bool, true, false, cond}
 use mathlib.Core.Path.{◌≡◌, refl, ap}
-use mathlib.Core.List.{List, [], ◌∷◌, ◌++◌, append-nil}
+use mathlib.Core.List.{List, [], ◌∷◌, ◌++◌, append_assoc}
 use lib.ListN.{length}
 use Rattle.protocol.specs.Format.{up_to}
 use Rattle.protocol.specs.Rounds.{keep}
 use Rattle.protocol.proofs.Lists.{length-count_from, up-to-more}
-use Rattle.queue.specs.declared.Queue.{Queue}
-use Rattle.queue.specs.List.{list_of, Holds}
 
 -- keeping makes no list longer
 pub length-keep : (t : ℕ → Bool) (ws : List ℕ) → length (keep t ws) ≤ length ws
@@ -32,15 +30,19 @@ keep-more t (w ∷ ws) v = go (t w) (keep-more t ws v)
     go true e = ap (λ (us : List ℕ). w ∷ us) e
     go false e = e
 
-module _ (t : ℕ → Bool) (i : ℕ) {q : Queue} (h : Holds q (keep t (up_to i))) where
-  pub picked-short : length (list_of q) ≤ i
-  picked-short = omega (arith, ap length h.list, length-keep t (up_to i), length-count_from i 0)
+-- of the workers counted off
+pub length-picked : (t : ℕ → Bool) (n : ℕ) → length (keep t (up_to n)) ≤ n
+length-picked t n = omega (arith, length-keep t (up_to n), length-count_from n 0)
 
-  one_more : {b : Bool} → t i ≡ b → keep t (up_to (i + 1)) ≡ list_of q ++ cond b (i ∷ []) []
-  one_more e = rw (up-to-more i, keep-more t (up_to i) i, h.list, e)
+pub picked-more : (t : ℕ → Bool) (n : ℕ) → keep t (up_to (n + 1)) ≡ keep t (up_to n) ++ cond (t n) (n ∷ []) []
+picked-more t n = rw (up-to-more n, keep-more t (up_to n) n)
 
-  pub picked-keep : t i ≡ true → {j p : Queue} → Holds p (list_of q ++ (i ∷ [])) → j ≡ p → Holds j (keep t (up_to (i + 1)))
-  picked-keep y pushed same = rw (same, one_more y) pushed
+-- a turn of a scan, which takes the worker w off those left: it joins those kept if it passes
+module _ (t : ℕ → Bool) (all kept : List ℕ) {left after : List ℕ} {w : ℕ} (next : left ≡ w ∷ after) (before : kept ++ keep t left ≡ keep t all) where
+  pub scan-keep : true ≡ t w → (kept ++ (w ∷ [])) ++ keep t after ≡ keep t all
+  unfolding keep
+  scan-keep e = rw append_assoc (rw (next, ← e) at before)
 
-  pub picked_pass : t i ≡ false → {j : Queue} → j ≡ q → Holds j (keep t (up_to (i + 1)))
-  picked_pass n same = rw (same, one_more n, append-nil) (record { good = h.good; list = refl })
+  pub scan-pass : false ≡ t w → kept ++ keep t after ≡ keep t all
+  unfolding keep
+  scan-pass e = rw (next, ← e) at before

@@ -1,2 +1,4 @@
--- What a queue holds, as a list of workers.
+-- Lists of workers.
 pub mod List
+-- What a queue's three numbers hold.
+pub mod Digits

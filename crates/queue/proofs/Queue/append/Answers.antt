@@ -1,25 +1,30 @@
--- `Queue::append` meets its contract: the law of two queues in one number.
-use native.Mathlib.Omega.{arith}
-use Prim.Native.Nat.{◌+◌, ◌*◌, ◌<◌}
-use Rattle.queue.proofs.Digits.{append-digits, append-small, holds-append}
+use Rattle.std.proofs.Common.{◌+◌, ◌≤◌, length, arith}
+use Rattle.queue.specs.Digits.{list_of}
+use Rattle.queue.proofs.Appending.{short, below, unit, below_small, unit_small, list_append}
 use Rattle.queue.proofs.Queue.append.Goals as goal
 
 pub overflow_mul-result : goal.overflow_mul-result
 overflow_mul-result c =
-    let small_here : c.args.self.digits + c.args.self.unit * c.args.behind.digits < 4294967296 =
-    append-digits c.args.self c.args.behind c.requires.0 c.requires.1 c.requires.2 in
-    omega (arith, small_here)
+    omega (arith, below_small _ _ c.self.invariant c.behind.invariant (rw (c.self.view_is, c.behind.view_is) c.requires))
 
 pub overflow_add-result : goal.overflow_add-result
 overflow_add-result c =
-    let small_here : c.args.self.digits + c.args.self.unit * c.args.behind.digits < 4294967296 =
-    append-digits c.args.self c.args.behind c.requires.0 c.requires.1 c.requires.2 in
-    omega (arith, small_here)
+    omega (arith, below_small _ _ c.self.invariant c.behind.invariant (rw (c.self.view_is, c.behind.view_is) c.requires))
 
 pub overflow_mul-result-2 : goal.overflow_mul-result-2
 overflow_mul-result-2 c =
-    omega (arith, append-small c.args.self c.args.behind c.requires.0 c.requires.1 c.requires.2)
+    omega (arith, unit_small _ _ c.self.invariant c.behind.invariant (rw (c.self.view_is, c.behind.view_is) c.requires))
+
+pub invariant_of-result : goal.invariant_of-result
+invariant_of-result c =
+    let h : length (list_of c.self.inside) + length (list_of c.behind.inside) ≤ 8 = rw (c.self.view_is, c.behind.view_is) c.requires in
+    record {
+      unit = unit _ _ c.self.invariant c.behind.invariant h;
+      digits = below _ _ c.self.invariant c.behind.invariant h;
+      short = short _ _ c.self.invariant c.behind.invariant h;
+    }
 
 pub returns : goal.returns
 returns c =
-    holds-append c.args.self c.args.behind c.requires.0 c.requires.1 c.requires.2
+    let h : length (list_of c.self.inside) + length (list_of c.behind.inside) ≤ 8 = rw (c.self.view_is, c.behind.view_is) c.requires in
+    rw (list_append _ _ c.self.invariant c.behind.invariant h, c.self.view_is, c.behind.view_is)
