@@ -6,7 +6,7 @@ ghost use Rattle.std.specs.Iterator.{item_count};
 ghost use Rattle.protocol.specs.Format.{workers_limit, up_to};
 ghost use Rattle.protocol.specs.Rounds.{keep, member, without};
 ghost use Rattle.protocol.specs.Turns.{none_left};
-ghost use Rattle.queue.specs.List.{Below, YieldsWorker};
+ghost use Rattle.queue.specs.List.{Below, AllWorkers, YieldsWorker};
 
 use format::limits::WORKERS_LIMIT;
 use std::marker::Model;
@@ -134,7 +134,6 @@ impl Queue {
         requires { (w : ℕ) → member w self ≡ true → F.pre test w }
         ensures { (p : ℕ → Bool) → ((w : ℕ) (r : Bool) → F.post test w r → r ≡ p w) → result ≡ keep p self }
     {
-        let _ = &self.len;
         let mut kept = Queue::empty();
         for w in self {
             if test(w) {
@@ -204,9 +203,11 @@ impl IntoIterator for Queue {
 
     type IntoIter = Workers;
 
-    ghost into_iter_gives = { λ queue workers. workers ≡ queue };
+    ghost into_iter_gives = { AllWorkers };
 
     fn into_iter(self) -> Workers {
+        // A queue's length is known where a field of it is used.
+        let _ = &self.len;
         Workers(self)
     }
 }

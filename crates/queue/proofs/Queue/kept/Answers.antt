@@ -33,4 +33,4 @@ loop-w-preserved g c =
 
 pub returns : goal.returns
 unfolding keep
-returns g c = λ p post. rw (c.in-None.ensures.steps.first.0, append-nil, c.into_iter-w-iterator.ensures.into_iter_gives) at c.loop-w.invariant.same p post
+returns g c = λ p post. rw (c.in-None.ensures.steps.first.0, append-nil, c.into_iter-w-iterator.ensures.into_iter_gives.same) at c.loop-w.invariant.same p post
