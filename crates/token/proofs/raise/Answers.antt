@@ -1,26 +1,17 @@
--- `raise` meets its contract: a walk.
-use borrow.Author.Rules.{rules}
-use native.Mathlib.Omega.{arith}
-use Prim.Native.Nat.{◌<◌}
-use lib.ListN.{length}
-use Rattle.queue.specs.List.{list_of}
-use Rattle.queue.proofs.Laws.{some_left}
-use Rattle.queue.proofs.Walk.{walk-worker, walk-on, walk_end}
+-- `raise` meets its contract: to raise those left, as the marks are, is to raise all, as they were.
+use Rattle.queue.proofs.Laws.{below-next, below-after}
 use Rattle.token.specs.Token.{raised}
 use Rattle.token.proofs.raise.Goals as goal
 
 pub bounds-can-w : goal.bounds-can-w
-bounds-can-w c =
-    let some_here : 0 < length (list_of c.loop-left.left) =
-    some_left c.loop-left.left c.is_empty.ensures (search rules) in
-    omega (arith, walk-worker c.loop-left.invariant some_here c.first-w.ensures)
+bounds-can-w c = below-next c.in-Some.ensures.steps.first c.loop-w.invariant.below
 
-pub loop-left-preserved : goal.loop-left-preserved
-loop-left-preserved c =
-    let some_here : 0 < length (list_of c.loop-left.left) =
-    some_left c.loop-left.left c.is_empty.ensures (search rules) in
-    walk-on c.loop-left.invariant some_here c.first-w.ensures c.rest-left.ensures
+pub loop-w-preserved : goal.loop-w-preserved
+unfolding raised
+loop-w-preserved c =
+    let taken = c.in-Some.ensures.steps.first in
+    record { same = rw taken at c.loop-w.invariant.same; below = below-after taken c.loop-w.invariant.below }
 
 pub returns : goal.returns
 unfolding raised
-returns c = walk_end c.loop-left.invariant c.is_empty.ensures (search rules)
+returns c = rw (c.in-None.ensures.steps.first.0, c.into_iter-w-iterator.ensures.into_iter_gives.same) at c.loop-w.invariant.same
