@@ -1,13 +1,17 @@
 -- Turns that pass.
-use Rattle.std.specs.Prelude.{ℕ, zero, suc, ◌≤◌, ◌<◌, Bool, true, false, not, ◌&&◌, ◌≡◌, List, length, get_or}
+use Rattle.std.specs.Prelude.{ℕ, ◌≤◌, ◌<◌, Bool, false, ◌≡◌, List, length, get_or}
 use Rattle.protocol.specs.Calls.{turns_limit}
 use Rattle.protocol.specs.Format.{workers_limit}
+
+-- each of these turns names a worker
+abbrev pub Named : List ℕ → Type 0
+Named turns = (i : ℕ) → i < length turns → get_or turns i 0 < workers_limit
 
 -- a place in a list of turns, each of which names a worker
 pub record Passing (turns : List ℕ) (from : ℕ) : Type 0 where
   pub within : from ≤ length turns
   pub short : length turns ≤ turns_limit
-  pub named : (i : ℕ) → i < length turns → get_or turns i 0 < workers_limit
+  pub named : Named turns
 
 -- from one place to before another each turn is by a worker that cannot move
 pub record Passed (turns : List ℕ) (can : List Bool) (from to : ℕ) : Type 0 where
@@ -20,8 +24,3 @@ pub record Spanned (turns : List ℕ) (from to least most : ℕ) : Type 0 where
   pub low : (i : ℕ) → from ≤ i → i < to → least ≤ get_or turns i 0
   pub high : (i : ℕ) → from ≤ i → i < to → get_or turns i 0 ≤ most
   pub below : most < workers_limit
-
--- whether none of so many workers can move, from one on
-unfoldable pub none_moves : List Bool → ℕ → ℕ → Bool
-none_moves can zero w = true
-none_moves can (suc k) w = not (get_or can w false) && none_moves can k (suc w)

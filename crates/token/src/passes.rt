@@ -1,16 +1,17 @@
 // Turns that pass, many at a time.
-ghost use Rattle.std.specs.Prelude.{◌≡◌, ◌+◌, ◌-◌, ◌≤◌, ◌<◌, length};
+ghost use Rattle.std.specs.Prelude.{◌≡◌, ◌+◌, ◌-◌, ◌≤◌, ◌<◌, not, take, drop};
+ghost use Rattle.std.specs.List.{list_all};
 ghost use Rattle.protocol.specs.Format.{workers_limit};
-ghost use Rattle.token.specs.Passes.{Passing, Passed, Spanned, none_moves};
+ghost use Rattle.token.specs.Passes.{Passing, Passed, Named, Spanned};
 
 use format::limits::WORKERS_LIMIT;
 
 // A block of turns names no worker below the least and none above the most. Whether it names these two is left open: a wider
 // range would cost time, and no turn that moves would be passed over.
 #[derive(Clone, Copy)]
-pub struct Range {
-    pub least: u8,
-    pub most: u8,
+struct Range {
+    least: u8,
+    most: u8,
 }
 
 // Turns looked at together.
@@ -20,36 +21,26 @@ const BLOCK: usize = 64;
 const NEAR: usize = 12;
 
 // All turns are looked at, without a branch, so that the loop becomes vector code.
-fn span(turns: &[u8], at: usize) -> Range
-    requires { Passing turns.now at × (at + 64 ≤ length turns.now) }
-    ensures { Spanned turns.now at (at + 64) result.least result.most }
+fn span(block: &[u8; BLOCK]) -> Range
+    requires { Named block.now }
+    ensures { Spanned block.now 0 64 result.least result.most }
 {
     let mut least: u8 = 255;
     let mut most: u8 = 0;
-    let mut k = 0;
-    while k < BLOCK {
-        let t = turns[at + k];
-        least = if t < least { t } else { least };
-        most = if most < t { t } else { most };
-        k += 1;
+    for t in block {
+        least = least.min(*t);
+        most = most.max(*t);
     }
     Range { least, most }
 }
 
-// Whether none of the workers from least to most can move.
-fn idle(can: &[bool; WORKERS_LIMIT], least: u8, most: u8) -> bool
-    requires { most < workers_limit }
-    ensures { result ≡ none_moves can.now (most + 1 - least) least }
+// Whether none of these workers can move.
+fn idle(can: &[bool; WORKERS_LIMIT], workers: Range) -> bool
+    requires { (workers.least ≤ workers.most) × (workers.most < workers_limit) }
+    ensures { result ≡ list_all not (take (workers.most + 1 - workers.least) (drop workers.least can.now)) }
 {
-    let mut w = least as usize;
-    let last = most as usize;
-    while w <= last {
-        if can[w] {
-            return false;
-        }
-        w += 1;
-    }
-    true
+    let marks = &can[workers.least as usize..=workers.most as usize];
+    marks.iter().all(|able| !*able)
 }
 
 // Steps over whole blocks.
@@ -57,15 +48,14 @@ fn blocks(turns: &[u8], from: usize, can: &[bool; WORKERS_LIMIT]) -> usize
     requires { Passing turns.now from }
     ensures { Passed turns.now can.now from result }
 {
-    let mut i = from;
-    while i + BLOCK <= turns.len() {
-        let s = span(turns, i);
-        if !idle(can, s.least, s.most) {
-            return i;
+    let mut at = from;
+    while let Some(block) = turns[at..].first_chunk::<BLOCK>() {
+        if !idle(can, span(block)) {
+            return at;
         }
-        i += BLOCK;
+        at += BLOCK;
     }
-    i
+    at
 }
 
 // The next turn that may move, or one before it. How far before is left open, since each turn from there on is looked at again.
@@ -77,12 +67,10 @@ pub fn pass_over(turns: &[u8], from: usize, can: &[bool; WORKERS_LIMIT]) -> usiz
     if turns.len() < from + NEAR {
         return from;
     }
-    let mut k = 0;
-    while k < NEAR {
+    for k in 0..NEAR {
         if can[turns[from + k] as usize] {
             return from + k;
         }
-        k += 1;
     }
     blocks(turns, from + NEAR, can)
 }

@@ -3,10 +3,18 @@ use borrow.Author.Rules.{rules}
 use borrow.Author.Tests.{not-false}
 use native.Mathlib.Omega.{arith}
 use mathlib.Core.Path.{sym, ◌∙◌}
-use Rattle.token.proofs.Passing.{passed-block, passed-join}
+use Rattle.token.proofs.Passing.{block-named, passed-block}
 use Rattle.token.proofs.passes.blocks.Goals as goal
 
-pub loop-i-preserved : goal.loop-i-preserved
-loop-i-preserved c =
+pub span-requires : goal.span-requires
+span-requires c = block-named _ _ c.in-Some.ensures.cases c.requires.named
+
+pub idle-requires : goal.idle-requires
+idle-requires c =
+    let s = c.span.ensures in
+    (omega (arith, s.low 0 (omega arith) (omega arith), s.high 0 (omega arith) (omega arith)), s.below)
+
+pub loop-block-preserved : goal.loop-block-preserved
+loop-block-preserved c =
     let none = sym c.idle.ensures ∙ not-false _ (search rules) in
-    passed-join c.loop-i.invariant (passed-block (omega arith) c.loop-i-test.true c.span-s.ensures none)
+    passed-block _ _ c.in-Some.ensures.cases (search rules) c.loop-block.invariant c.span.ensures none

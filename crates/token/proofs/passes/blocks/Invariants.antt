@@ -3,8 +3,8 @@ use lib.ListN.{length}
 use Rattle.token.specs.Passes.{Passed}
 use Rattle.token.proofs.passes.blocks.Given as goal
 
-abbrev pub invariant-loop-i : goal.invariant-loop-i
-invariant-loop-i l = Passed l.turns l.can l.from l.i
+abbrev pub invariant-loop-block : goal.invariant-loop-block
+invariant-loop-block l = Passed l.turns l.can l.from l.at
 
-abbrev pub decreases-loop-i : goal.decreases-loop-i
-decreases-loop-i l = length l.turns - l.i
+abbrev pub decreases-loop-block : goal.decreases-loop-block
+decreases-loop-block l = length l.turns - l.at

@@ -1,9 +1,6 @@
-use Prim.Native.Nat.{◌+◌, ◌-◌, ◌≤◌}
+use Prim.Native.Nat.{◌≤◌}
 use Rattle.token.specs.Passes.{Spanned}
 use Rattle.token.proofs.passes.span.Given as goal
 
-abbrev pub invariant-loop-k : goal.invariant-loop-k
-invariant-loop-k l = (l.k ≤ 64) × Spanned l.turns l.at (l.at + l.k) l.least l.most
-
-abbrev pub decreases-loop-k : goal.decreases-loop-k
-decreases-loop-k l = 64 - l.k
+abbrev pub invariant-loop-t : goal.invariant-loop-t
+invariant-loop-t l = (l.t-index ≤ 64) × Spanned l.block 0 l.t-index l.least l.most
