@@ -4,7 +4,6 @@ use Rattle.std.proofs.Common.{ap, arith, sym}
 use Rattle.std.proofs.Math.Nat.{pow-succ'}
 use Rattle.protocol.specs.Format.{workers_limit}
 use Rattle.queue.specs.declared.Queue.TheInside.{Inside}
-use Rattle.queue.specs.declared.Workers.TheInside as workers
 
 -- so many digits of a number, the lowest first
 abbrev pub digits_of : ℕ → ℕ → List ℕ
@@ -40,7 +39,3 @@ packed-digits_of (suc n) digits h =
 
 pub made_of-list_of : (q : Inside) → IsQueue q → made_of (list_of q) ≡ q
 made_of-list_of q g = rw (length-digits_of q.len q.digits, packed-digits_of q.len q.digits g.digits, sym g.unit) refl
-
--- what an iterator has still to give
-abbrev pub left_of : workers.Inside → List ℕ
-left_of w = w.0

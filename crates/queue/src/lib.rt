@@ -176,9 +176,7 @@ impl Model for Workers {
 
     ghost Value = { List ℕ };
 
-    ghost use Rattle.queue.specs.Digits.{left_of};
-
-    ghost view = { left_of };
+    ghost view = { λ workers. workers.0 };
 }
 
 impl Iterator for Workers {

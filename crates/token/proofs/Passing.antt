@@ -12,7 +12,7 @@ use Rattle.std.proofs.Common.{length, get_or, take, drop}
 use Rattle.std.proofs.lemmas.List.{get_or-take, get_or-drop, length-take, length-take-le, length-drop}
 use Rattle.std.proofs.lemmas.List.Elements.{All-get_or}
 use Rattle.std.proofs.lemmas.List.Sums.{AllPass-from_list_all}
-use Rattle.token.specs.Passes.{Passed, Named, Spanned}
+use Rattle.token.specs.Passes.{Passed, NamesWorkers, Spanned}
 
 -- where none of the workers from least to most can move, each of them cannot
 each-idle : (can : List Bool) (least most w : ℕ) → most < length can → list_all not (take (most + 1 - least) (drop least can)) ≡ true
@@ -37,7 +37,7 @@ module _ (turns : List ℕ) (at : ℕ) {block : List ℕ} (first : Front turns a
       let left = take (length turns - at) (drop at turns) in
       rw (first.same, get_or-take 64 left k 0 h, get_or-take (length turns - at) (drop at turns) k 0 (omega (arith, within)), get_or-drop at turns k 0)
 
-  pub block-named : Named turns → Named block
+  pub block-named : NamesWorkers turns → NamesWorkers block
   block-named named i h =
       let e : length block ≡ 64 = rw (first.same, length-take-le 64 _ first.enough) in
       let k : i < 64 = omega (arith, e) in

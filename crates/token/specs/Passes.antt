@@ -4,14 +4,14 @@ use Rattle.protocol.specs.Calls.{turns_limit}
 use Rattle.protocol.specs.Format.{workers_limit}
 
 -- each of these turns names a worker
-abbrev pub Named : List ℕ → Type 0
-Named turns = (i : ℕ) → i < length turns → get_or turns i 0 < workers_limit
+abbrev pub NamesWorkers : List ℕ → Type 0
+NamesWorkers turns = (i : ℕ) → i < length turns → get_or turns i 0 < workers_limit
 
 -- a place in a list of turns, each of which names a worker
 pub record Passing (turns : List ℕ) (from : ℕ) : Type 0 where
   pub within : from ≤ length turns
   pub short : length turns ≤ turns_limit
-  pub named : Named turns
+  pub named : NamesWorkers turns
 
 -- from one place to before another each turn is by a worker that cannot move
 pub record Passed (turns : List ℕ) (can : List Bool) (from to : ℕ) : Type 0 where

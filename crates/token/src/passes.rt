@@ -2,7 +2,7 @@
 ghost use Rattle.std.specs.Prelude.{◌≡◌, ◌+◌, ◌-◌, ◌≤◌, ◌<◌, not, take, drop};
 ghost use Rattle.std.specs.List.{list_all};
 ghost use Rattle.protocol.specs.Format.{workers_limit};
-ghost use Rattle.token.specs.Passes.{Passing, Passed, Named, Spanned};
+ghost use Rattle.token.specs.Passes.{Passing, Passed, NamesWorkers, Spanned};
 
 use format::limits::WORKERS_LIMIT;
 
@@ -22,7 +22,7 @@ const NEAR: usize = 12;
 
 // All turns are looked at, without a branch, so that the loop becomes vector code.
 fn span(block: &[u8; BLOCK]) -> Range
-    requires { Named block.now }
+    requires { NamesWorkers block.now }
     ensures { Spanned block.now 0 64 result.least result.most }
 {
     let mut least: u8 = 255;
