@@ -5,7 +5,7 @@ use native.Mathlib.Omega.{arith}
 use mathlib.Core.Bool.{Bool, true, false, cond}
 use mathlib.Core.Path.{◌≡◌, refl, ap}
 use mathlib.Core.List.{List, [], ◌∷◌, ◌++◌, append_assoc}
-use lib.ListN.{length}
+use lib.ListN.{length, length-append}
 use Rattle.protocol.specs.Format.{up_to}
 use Rattle.protocol.specs.Rounds.{keep}
 use Rattle.protocol.proofs.Lists.{length-count_from, up-to-more}
@@ -36,6 +36,10 @@ length-picked t n = omega (arith, length-keep t (up_to n), length-count_from n 0
 
 pub picked-more : (t : ℕ → Bool) (n : ℕ) → keep t (up_to (n + 1)) ≡ keep t (up_to n) ++ cond (t n) (n ∷ []) []
 picked-more t n = rw (up-to-more n, keep-more t (up_to n) n)
+
+-- from one list to the other
+pub length-moved : (kept : List ℕ) {left after : List ℕ} {w : ℕ} → left ≡ w ∷ after → length (kept ++ (w ∷ [])) + length after ≡ length kept + length left
+length-moved kept {w = w} next = omega (arith, ap length next, length-append kept (w ∷ []))
 
 -- a turn of a scan, which takes the worker w off those left: it joins those kept if it passes
 module _ (t : ℕ → Bool) (all kept : List ℕ) {left after : List ℕ} {w : ℕ} (next : left ≡ w ∷ after) (before : kept ++ keep t left ≡ keep t all) where

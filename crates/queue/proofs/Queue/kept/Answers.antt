@@ -1,11 +1,11 @@
 -- `Queue::kept` meets its contract: a scan.
 use native.Mathlib.Omega.{arith}
 use mathlib.Core.Path.{ap}
-use lib.ListN.{length, length-append}
-use mathlib.Core.List.{[], ◌∷◌, append-nil}
+use lib.ListN.{length}
+use mathlib.Core.List.{append-nil}
 use Rattle.protocol.specs.Rounds.{keep}
 use Rattle.queue.proofs.Laws.{member-first, member-rest}
-use Rattle.queue.proofs.Picked.{scan-keep, scan-pass}
+use Rattle.queue.proofs.Picked.{length-moved, scan-keep, scan-pass}
 use Rattle.queue.proofs.Queue.kept.Goals as goal
 
 pub test-requires : goal.test-requires
@@ -16,7 +16,7 @@ loop-w-preserved-then-test g c =
     let next = c.in-Some.ensures.steps.first in
     let scan = c.loop-w.invariant in
     record {
-      short = omega (arith, scan.short, ap length next, ap length c.push-kept.ensures, length-append c.loop-w.kept (c.in-Some.w ∷ []));
+      short = rw (c.push-kept.ensures, length-moved c.loop-w.kept next) scan.short;
       callable = λ v m. scan.callable v (rw next (member-rest v _ _ m));
       same = λ p post. rw c.push-kept.ensures (scan-keep p _ c.loop-w.kept next (scan.same p post) (post _ _ c.if-test.ensures));
     }
