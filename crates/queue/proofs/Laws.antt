@@ -21,9 +21,6 @@ pub length_rest : (ws : List ℕ) → 0 < length ws → length ws ≡ length (dr
 length_rest [] h = absurd (omega arith)
 length_rest (w ∷ ws) h = omega arith
 
-abbrev pub first : List ℕ → ℕ
-first ws = get_or ws 0 0
-
 pub member-first : (w : ℕ) (ws : List ℕ) → member w (w ∷ ws) ≡ true
 unfolding member
 member-first w ws = rw (eq-eqb w w refl)
@@ -40,15 +37,11 @@ member-one v w = go (eqb v w)
     go true = refl
     go false = refl
 
-pub below-first : (n : ℕ) (ws : List ℕ) → 0 < length ws → Below n ws → first ws < n
+pub below-first : (n : ℕ) (ws : List ℕ) → 0 < length ws → Below n ws → get_or ws 0 0 < n
 below-first n [] h b = omega arith
 below-first n (w ∷ ws) h b = b w (member-first w ws)
 
-pub below_rest : (n : ℕ) (ws : List ℕ) → Below n ws → Below n (drop 1 ws)
-below_rest n [] b = b
-below_rest n (w ∷ ws) b = λ v m. b v (member-rest v w ws m)
-
--- the same of a worker w that is taken off a list
+-- a worker w that is taken off a list
 module _ {n w : ℕ} {left after : List ℕ} (taken : left ≡ w ∷ after) (b : Below n left) where
   pub below-next : w < n
   below-next = b w (rw taken (member-first w after))
