@@ -1,2 +1,2 @@
--- Stretches of turns, one behind the other.
+-- A block of turns, and the workers that it names.
 pub mod Passing
