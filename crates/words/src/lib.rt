@@ -10,7 +10,7 @@ ghost use Rattle.words.specs.Bytes.{word_at, bytes_of};
 pub fn word(low: u8, high: u8) -> u16
     ensures { result ≡ Format·word low high }
 {
-    low as u16 + 256 * (high as u16)
+    u16::from_le_bytes([low, high])
 }
 
 // The two-byte number at a place.
@@ -26,25 +26,21 @@ pub fn long_at(bytes: &[u8], at: usize) -> u32
     requires { at + 4 ≤ length bytes.now }
     ensures { result ≡ long_at bytes.now at }
 {
-    word_at(bytes, at) as u32 + 65536 * (word_at(bytes, at + 2) as u32)
+    u32::from_le_bytes([bytes[at], bytes[at + 1], bytes[at + 2], bytes[at + 3]])
 }
 
 pub fn low_byte(number: u16) -> u8
     ensures { result ≡ number % 256 }
 {
-    (number % 256) as u8
+    let [low, _] = number.to_le_bytes();
+    low
 }
 
 pub fn high_byte(number: u16) -> u8
     ensures { result ≡ number / 256 }
 {
-    (number / 256) as u8
-}
-
-fn lowest(number: u64) -> u8
-    ensures { result ≡ number % 256 }
-{
-    (number % 256) as u8
+    let [_, high] = number.to_le_bytes();
+    high
 }
 
 // Writes so many bytes of a number, the lowest first, from a place on.
@@ -53,11 +49,9 @@ pub fn put(bytes: &mut [u8], at: usize, count: usize, number: u64)
     ensures { bytes.new ≡ sets bytes.old at (bytes_of count number) }
 {
     let mut left = number;
-    let mut k = 0;
-    while k < count {
-        bytes[at + k] = lowest(left);
-        left = left / 256;
-        k += 1;
+    for k in 0..count {
+        bytes[at + k] = (left % 256) as u8;
+        left /= 256;
     }
 }
 
@@ -65,9 +59,5 @@ pub fn put(bytes: &mut [u8], at: usize, count: usize, number: u64)
 pub fn clear(bytes: &mut [u8])
     ensures { bytes.new ≡ replicate (length bytes.old) 0 }
 {
-    let mut i = 0;
-    while i < bytes.len() {
-        bytes[i] = 0;
-        i += 1;
-    }
+    bytes.fill(0);
 }

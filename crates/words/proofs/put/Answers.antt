@@ -11,4 +11,4 @@ loop-k-preserved c =
     let a = c.args in
     let next : a.at + (at.k + 1) ≡ suc (a.at + at.k) = omega arith in
     let rest : a.count - at.k ≡ suc (a.count - (at.k + 1)) = omega arith in
-    (omega arith, simp length-set at.invariant.1, rw (next, c.lowest.ensures) (rw rest at at.invariant.2))
+    (omega arith, simp length-set at.invariant.1, rw next (rw rest at at.invariant.2))
