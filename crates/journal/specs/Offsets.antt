@@ -33,9 +33,6 @@ tallies_length = 8
 abbrev pub report_fates : ℕ
 report_fates = tallies_length
 
-abbrev pub sum_length : ℕ
-sum_length = 4
-
 -- a worker synchronises with each of its steps at most, and once behind the last
 abbrev pub entries_limit : ℕ
 entries_limit = workers_limit * (steps_limit + 1)

@@ -1,6 +1,9 @@
-// How a plan stands, as the report's first byte says it.
-pub const GOING: u8 = 0;
+// How a plan stands; the report's first byte is its number.
+#[derive(Clone, Copy, PartialEq, Eq)]
+pub enum End {
+    UnderWay = 0,
+    Finished = 1,
+    Stuck = 2,
+}
 
-pub const FINISHED: u8 = 1;
-
-pub const STUCK: u8 = 2;
+pub const FINISHED: u8 = End::Finished as u8;

@@ -1,4 +1,4 @@
-// The log: records of eight bytes, packed into one number each.
+// The log: records of eight bytes each.
 ghost use Rattle.std.specs.Prelude.{◌≡◌, ◌++◌, ◌-◌, ◌*◌, ◌≤◌, length, take, replicate};
 ghost use Rattle.protocol.specs.Report.{entry_length, entry_bytes};
 ghost use Rattle.words.specs.Bytes.{bytes_of};
@@ -7,7 +7,7 @@ ghost use Rattle.journal.specs.Bytes.{entry_as};
 use format::limits::{STEPS_LIMIT, WORKERS_LIMIT};
 
 // The mark 4D 4C as one number.
-pub const LOG_MARK: u64 = 0x4C4D;
+const LOG_MARK: u16 = 0x4C4D;
 
 pub const ENTRY_LENGTH: usize = 8;
 
@@ -27,13 +27,42 @@ pub const ENTRIES_LIMIT: usize = WORKERS_LIMIT * (STEPS_LIMIT + 1);
 
 pub const LOG_LENGTH: usize = ENTRY_LENGTH * ENTRIES_LIMIT;
 
-// A record as one number, its first byte lowest: mark, round, worker, op, number, outcome.
+// A record of the log but for its mark.
+#[derive(Clone, Copy)]
+pub struct Entry {
+    pub round: u16,
+    pub worker: u8,
+    pub op: u8,
+    pub number: u8,
+    pub outcome: u8,
+}
+
+impl Entry {
+    pub fn to_bytes(self) -> [u8; ENTRY_LENGTH]
+        ensures { result ≡ entry_bytes (entry_as self.round self.worker self.op self.number self.outcome) }
+    {
+        let mark = LOG_MARK.to_le_bytes();
+        let round = self.round.to_le_bytes();
+        [
+            mark[0],
+            mark[1],
+            round[0],
+            round[1],
+            self.worker,
+            self.op,
+            self.number,
+            self.outcome,
+        ]
+    }
+}
+
+// A record as one number, its first byte lowest.
 pub fn packed(round: u16, worker: u8, op: u8, number: u8, outcome: u8) -> u64
     ensures { bytes_of entry_length result ≡ entry_bytes (entry_as round worker op number outcome) }
 {
     let tail = number as u64 + 256 * (outcome as u64);
     let body = worker as u64 + 256 * (op as u64) + 65536 * tail;
-    LOG_MARK + 65536 * (round as u64) + 4294967296 * body
+    LOG_MARK as u64 + 65536 * (round as u64) + 4294967296 * body
 }
 
 // Clears what is behind the records.
@@ -42,5 +71,5 @@ pub fn clear_behind(log: &mut [u8], records: usize)
     ensures { log.new ≡ take (entry_length * records) log.old ++ replicate (length log.old - entry_length * records) 0 }
 {
     let at = ENTRY_LENGTH * records;
-    words::clear(&mut log[at..]);
+    log[at..].fill(0);
 }

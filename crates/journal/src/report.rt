@@ -2,13 +2,10 @@
 ghost use Rattle.std.specs.Prelude.{◌≡◌, length};
 ghost use Rattle.protocol.specs.Format.{workers_limit};
 ghost use Rattle.protocol.specs.Calls.{report_length};
-ghost use Rattle.words.specs.Bytes.{bytes_of};
-ghost use Rattle.journal.specs.Offsets.{tallies_length};
-ghost use Rattle.journal.specs.Bytes.{shown, fates_from, Narrowing, tallies_of, report_of};
+ghost use Rattle.journal.specs.Bytes.{shown_by, fates_from, Narrowing, report_of};
 
 use format::fates;
 use format::limits::WORKERS_LIMIT;
-use words::put;
 
 // The bytes of its numbers up to the fates, and those of the sum.
 const TALLIES_LENGTH: usize = 8;
@@ -46,44 +43,28 @@ pub struct Counts {
 }
 
 // The byte of a worker's fate, by its code. The codes on conditions are even, those at barriers odd.
-fn fate_byte(code: u64, w: u8, workers: u8) -> u8
-    ensures { result ≡ shown workers w code }
+fn fate_byte(code: u64) -> u8
+    ensures { result ≡ shown_by code }
 {
-    if workers <= w {
-        return NO_WORKER;
+    match code {
+        0..=fates::FAILED => code as u8,
+        fates::ASLEEP => SHOWN_ASLEEP,
+        _ if code % 2 == 0 => SHOWN_ON_CONDITION,
+        _ => SHOWN_AT_BARRIER,
     }
-    if code < fates::ASLEEP {
-        return (code % 256) as u8;
-    }
-    if code == fates::ASLEEP {
-        return SHOWN_ASLEEP;
-    }
-    if code % 2 == 0 {
-        return SHOWN_ON_CONDITION;
-    }
-    SHOWN_AT_BARRIER
 }
 
-// The fates' bytes as one number, worker 0's lowest.
-fn packed_fates(fates: &[u64; WORKERS_LIMIT], workers: u8) -> u64
-    ensures { bytes_of workers_limit result ≡ fates_from workers fates.now workers_limit 0 }
+// The bytes of the workers' fates, and of those that there are not.
+fn fate_bytes(fates: &[u64; WORKERS_LIMIT], workers: u8) -> [u8; WORKERS_LIMIT]
+    ensures { result ≡ fates_from workers fates.now workers_limit 0 }
 {
-    let mut packed = 0u64;
-    let mut w = WORKERS_LIMIT;
-    while 0 < w {
-        w -= 1;
-        packed = fate_byte(fates[w], w as u8, workers) as u64 + 256 * packed;
+    let mut bytes = [NO_WORKER; WORKERS_LIMIT];
+    for (w, byte) in bytes.iter_mut().enumerate() {
+        if w < workers as usize {
+            *byte = fate_byte(fates[w]);
+        }
     }
-    packed
-}
-
-// The numbers of a report as one, the first lowest.
-fn packed_tallies(end: u8, workers: u8, moves: u16, rounds: u16, records: u16) -> u64
-    ensures { bytes_of tallies_length result ≡ tallies_of end workers moves rounds records }
-{
-    let last = rounds as u64 + 65536 * (records as u64);
-    let counts = moves as u64 + 65536 * last;
-    end as u64 + 256 * (workers as u64) + 65536 * counts
+    bytes
 }
 
 // Writes the report: end, number of workers, moving turns, rounds, log records, the eight fates, and the sum of shared memory's words.
@@ -99,12 +80,12 @@ pub fn write_report(
     requires report_len { length report.old ≡ report_length }
     ensures { report.new ≡ report_of end workers c fates.now sum }
 {
-    let moves = c.moves as u16;
-    let rounds = c.rounds as u16;
-    let records = c.records as u16;
-    let tallies = packed_tallies(end, workers, moves, rounds, records);
-    let shown = packed_fates(fates, workers);
-    put(report, REPORT_END, TALLIES_LENGTH, tallies);
-    put(report, REPORT_FATES, WORKERS_LIMIT, shown);
-    put(report, REPORT_SUM, SUM_LENGTH, sum as u64);
+    let moves = (c.moves as u16).to_le_bytes();
+    let rounds = (c.rounds as u16).to_le_bytes();
+    let records = (c.records as u16).to_le_bytes();
+    report[..REPORT_FATES].copy_from_slice(&[
+        end, workers, moves[0], moves[1], rounds[0], rounds[1], records[0], records[1],
+    ]);
+    report[REPORT_FATES..REPORT_SUM].copy_from_slice(&fate_bytes(fates, workers));
+    report[REPORT_SUM..].copy_from_slice(&sum.to_le_bytes());
 }
