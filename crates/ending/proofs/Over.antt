@@ -1,31 +1,40 @@
--- Whether all workers have exited, failed or sleep, one worker at a time.
-use Prim.Native.Nat.{ℕ, suc, ◌+◌, ◌-◌, ◌<◌, ◌≤◌}
-use mathlib.Core.Bool.{true, ◌&&◌}
-use mathlib.Core.Path.{◌≡◌, ap, ◌∙◌, sym}
-use mathlib.Core.List.{List}
+-- Whether all workers have exited, failed or sleep, from what is known of each.
+use Rattle.std.proofs.Common.{◌≡◌, ◌≤◌, ◌<◌, ℕ, zero, suc, ◌+◌, refl, ap, sym, ◌∙◌, Bool, true, false, ◌&&◌, List, length, get_or, take}
+use native.Mathlib.Decide.{dec_lt}
 use native.Mathlib.Omega.{arith}
-use native.Mathlib.Numerals.{add-one}
-use lib.ListN.{get_or}
+use Rattle.std.proofs.Math.Bool.{and-false}
+use Rattle.std.proofs.lemmas.List.{get_or-take}
+use Rattle.std.specs.Bool.{MatchBool}
+use Rattle.std.specs.List.{AllWithin, HoldsAt}
+use lib.Seq.{length-take-le}
 use Rattle.ending.specs.Ending.{code_final, all_over}
 
-pub over-step : (fates : List ℕ) (n w : ℕ) → w < n → all_over fates (n - w) w ≡ code_final (get_or fates w 0) && all_over fates (n - (w + 1)) (w + 1)
+each-final : (fates : List ℕ) (k w : ℕ) → ((j : ℕ) → w ≤ j → j < w + k → code_final (get_or fates j 0) ≡ true) → all_over fates k w ≡ true
 unfolding all_over
-over-step fates n w h =
-    ap (λ (k : ℕ). all_over fates k w) left
-    ∙ ap (λ (k : ℕ). code_final (get_or fates w 0) && all_over fates (n - (w + 1)) k) (sym (add-one w))
-  where
-    left : n - w ≡ suc (n - (w + 1))
-    left = omega arith
+each-final fates zero w h = refl
+each-final fates (suc k) w h =
+    ap (λ (b : Bool). b && all_over fates k (suc w)) (h w (omega arith) (omega arith))
+    ∙ each-final fates k (suc w) (λ j a b. h j (omega (arith, a)) (omega (arith, b)))
 
-pub over-end : (fates : List ℕ) (n w : ℕ) → n ≤ w → all_over fates (n - w) w ≡ true
+one-not : (fates : List ℕ) (k w j : ℕ) → w ≤ j → j < w + k → code_final (get_or fates j 0) ≡ false → all_over fates k w ≡ false
 unfolding all_over
-over-end fates n w h = ap (λ (k : ℕ). all_over fates k w) none
-  where
-    none : n - w ≡ 0
-    none = omega arith
+one-not fates zero w j a b e = absurd (omega (arith, a, b))
+one-not fates (suc k) w j a b e =
+    elim (dec_lt w j) [
+      | yes later ↦ ap (λ (x : Bool). code_final (get_or fates w 0) && x) (one-not fates k (suc w) j later (omega (arith, b)) e) ∙ and-false (code_final (get_or fates w 0))
+      | no here ↦
+          let same : j ≡ w = omega (arith, here, a) in
+          ap (λ (x : Bool). x && all_over fates k (suc w)) (ap (λ (i : ℕ). code_final (get_or fates i 0)) (sym same) ∙ e)
+    ]
 
-pub over-start : (fates : List ℕ) (n : ℕ) → all_over fates (n - 0) 0 ≡ all_over fates n 0
-over-start fates n = ap (λ (k : ℕ). all_over fates k 0) all
-  where
-    all : n - 0 ≡ n
-    all = omega arith
+-- an answer by the first so many codes
+pub over : (fates : List ℕ) (n : ℕ) (r : Bool) → n ≤ length fates
+    → MatchBool r (AllWithin (λ code. code_final code ≡ true) (take n fates) 0 (length (take n fates)))
+    ((k : ℕ) × (k < length (take n fates)) × HoldsAt (λ code. code_final code ≡ false) (take n fates) k)
+    → r ≡ all_over fates n 0
+over fates n true h all =
+    let size = length-take-le n fates h in
+    sym (each-final fates n 0 (λ j a b. ap code_final (sym (get_or-take n fates j 0 (omega (arith, b)))) ∙ all j 0 (omega arith) (omega (arith, b, size))))
+over fates n false h (k, short, not_final) =
+    let size = length-take-le n fates h in
+    sym (one-not fates n 0 k (omega arith) (omega (arith, short, size)) (ap code_final (sym (get_or-take n fates k 0 (omega (arith, short, size)))) ∙ not_final 0))

@@ -2,7 +2,7 @@
 use Rattle.std.specs.Prelude.{ℕ, zero, suc, ◌-◌, ◌*◌, ◌≤◌, Bool, true, cond, not, ◌&&◌, ◌||◌, ◌≡◌, List, ◌++◌, ltb, length, get_or, take, replicate}
 use Rattle.protocol.specs.Format.{workers_limit}
 use Rattle.protocol.specs.Turns.{none_left}
-use Rattle.protocol.specs.Report.{under_way, finished, stuck, end_number, entry_length}
+use Rattle.protocol.specs.Report.{End, under_way, finished, stuck, end_number, entry_length}
 use Rattle.protocol.specs.Calls.{report_length}
 use Rattle.format.specs.Fates.{code_exited, code_asleep}
 use Rattle.journal.specs.declared.report.Counts.{Counts}
@@ -17,9 +17,13 @@ unfoldable pub all_over : List ℕ → ℕ → ℕ → Bool
 all_over fates zero w = true
 all_over fates (suc k) w = code_final (get_or fates w 0) && all_over fates k (suc w)
 
--- the end's number, by this round's list and the codes of fates
+-- the end, by whether nobody is left in this round's list, and the codes of fates
+abbrev pub end_when : Bool → List ℕ → ℕ → End
+end_when ended fates n = cond ended (cond (all_over fates n 0) finished stuck) under_way
+
+-- its number, by the list itself
 abbrev pub end_by : List ℕ → List ℕ → ℕ → ℕ
-end_by list fates n = end_number (cond (none_left list) (cond (all_over fates n 0) finished stuck) under_way)
+end_by list fates n = end_number (end_when (none_left list) fates n)
 
 -- what the end of a run takes
 pub record Closing (c : Counts) (n : ℕ) (log report : List ℕ) : Type 0 where
