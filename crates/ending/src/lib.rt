@@ -18,9 +18,8 @@ fn all_over(fates: &[u64; WORKERS_LIMIT], workers: u8) -> bool
     requires { workers ≤ workers_limit }
     ensures { result ≡ all_over fates.now workers 0 }
 {
-    fates
+    fates[..workers as usize]
         .iter()
-        .take(workers as usize)
         .all(|code| matches!(*code, fates::EXITED..=fates::ASLEEP))
 }
 
