@@ -2,15 +2,13 @@
 // then its twin. A slot is a worker's place for one page, Page::COUNT × worker + page, and `copied` marks the slots in use.
 #![tactic(auto)]
 
-ghost use Rattle.std.specs.Prelude.{◌≡◌, List, ℕ, ◌+◌, ◌<◌, ◌≤◌, length, drop};
-ghost use Rattle.std.proofs.Math.Seq.{paste};
+ghost use Rattle.std.specs.Prelude.{◌≡◌, List, ℕ, ◌<◌, ◌≤◌};
 ghost use Rattle.protocol.specs.Format.{workers_limit, address_limit};
 ghost use Rattle.protocol.specs.Calls.{memory_length};
-ghost use Rattle.protocol.specs.Pages.{page_size, page_count, page, no_copies, opened, load_byte, load_word, store_byte, store_word};
+ghost use Rattle.protocol.specs.Pages.{page_count, page, no_copies, opened, load_byte, load_word, store_byte, store_word};
 ghost use Rattle.pages.specs.Copies.{Lent, slot_count, slot_copy, copies_in, SlotHolds, WorkerHolds};
 
 use format::limits::WORKERS_LIMIT;
-use words::{high_byte, low_byte, word};
 
 #[derive(Clone, Copy)]
 pub struct Page;
@@ -29,18 +27,6 @@ pub const MEMORY_LENGTH: usize = Page::COUNT * Page::SIZE;
 
 pub const WORK_LENGTH: usize = SLOTS * Page::PAIR;
 
-// Copies a page's worth of bytes.
-fn copy_page(from: &[u8], start: usize, into: &mut [u8], at: usize)
-    requires { (start + page_size ≤ length from.now) × (at + page_size ≤ length into.old) }
-    ensures { into.new ≡ paste into.old at (drop start from.now) page_size }
-{
-    let mut i = 0;
-    while i < Page::SIZE {
-        into[at + i] = from[start + i];
-        i += 1;
-    }
-}
-
 // Both bytes are read before the choice: no branch waits for the mark.
 fn load_byte(memory: &[u8], work: &[u8], copied: &[bool; SLOTS], w: usize, address: usize) -> u8
     requires { Lent memory.now work.now × (w < workers_limit) × (address < memory_length) }
@@ -57,24 +43,26 @@ pub fn load(memory: &[u8], work: &[u8], copied: &[bool; SLOTS], w: usize, addres
     requires { Lent memory.now work.now × (w < workers_limit) × (address ≤ address_limit) }
     ensures { result ≡ load_word memory.now (copies_in copied.now work.now w) address }
 {
-    word(
+    u16::from_le_bytes([
         load_byte(memory, work, copied, w, address),
         load_byte(memory, work, copied, w, address + 1),
-    )
+    ])
 }
 
 // Copies a page into its slot twice, unless the slot is in use.
 fn open_page(memory: &[u8], work: &mut [u8], copied: &mut [bool; SLOTS], p: usize, slot: usize)
-    requires { Lent memory.now work.old × (length copied.old ≡ slot_count) × (p < page_count) × (slot < slot_count) }
+    requires { Lent memory.now work.old × (p < page_count) × (slot < slot_count) }
     ensures { SlotHolds slot (opened (page memory.now p) (slot_copy copied.old work.old slot))
         copied.old work.old copied.new work.new }
 {
     if copied[slot] {
         return;
     }
+    let start = Page::SIZE * p;
+    let page = &memory[start..start + Page::SIZE];
     let at = Page::PAIR * slot;
-    copy_page(memory, Page::SIZE * p, work, at);
-    copy_page(memory, Page::SIZE * p, work, at + Page::SIZE);
+    work[at..at + Page::SIZE].copy_from_slice(page);
+    work[at + Page::SIZE..at + Page::PAIR].copy_from_slice(page);
     copied[slot] = true;
 }
 
@@ -86,7 +74,7 @@ fn store_byte(
     address: usize,
     byte: u8,
 )
-    requires { Lent memory.now work.old × (length copied.old ≡ slot_count) × (w < workers_limit) × (address < memory_length) }
+    requires { Lent memory.now work.old × (w < workers_limit) × (address < memory_length) }
     ensures { WorkerHolds w (store_byte memory.now (copies_in copied.old work.old w) address byte)
         copied.old work.old copied.new work.new }
 {
@@ -105,12 +93,13 @@ pub fn store(
     address: usize,
     number: u16,
 )
-    requires { Lent memory.now work.old × (length copied.old ≡ slot_count) × (w < workers_limit) × (address ≤ address_limit) }
+    requires { Lent memory.now work.old × (w < workers_limit) × (address ≤ address_limit) }
     ensures { WorkerHolds w (store_word memory.now (copies_in copied.old work.old w) address number)
         copied.old work.old copied.new work.new }
 {
-    store_byte(memory, work, copied, w, address, low_byte(number));
-    store_byte(memory, work, copied, w, address + 1, high_byte(number));
+    let [low, high] = number.to_le_bytes();
+    store_byte(memory, work, copied, w, address, low);
+    store_byte(memory, work, copied, w, address + 1, high);
 }
 
 // A worker's copies are dropped.
@@ -118,9 +107,5 @@ pub fn discard(copied: &mut [bool; SLOTS], w: usize)
     requires { w < workers_limit }
     ensures { (work : List ℕ) → WorkerHolds w no_copies copied.old work copied.new work }
 {
-    let mut p = 0;
-    while p < Page::COUNT {
-        copied[Page::COUNT * w + p] = false;
-        p += 1;
-    }
+    copied[Page::COUNT * w..Page::COUNT * (w + 1)].fill(false);
 }

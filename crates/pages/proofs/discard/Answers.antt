@@ -1,11 +1,8 @@
--- `discard`: after p turns the marks of the first p pages are off, and those of other workers as they were.
+-- `discard`: the marks of the worker's pages are written over in one stretch.
 use native.Mathlib.Omega.{arith}
-use mathlib.Core.Path.{◌≡◌}
-use Rattle.protocol.specs.Pages.{page_count}
-use Rattle.pages.proofs.Slots.{unmarked-worker}
+use Rattle.pages.proofs.Slots.{unmarked-written}
 use Rattle.pages.proofs.discard.Goals as goal
 
 pub returns : goal.returns
 returns c work =
-    let all : c.loop-p.p ≡ page_count = omega arith in
-    unmarked-worker c.args.w c.args.copied.now c.loop-p.copied work c.loop-p.invariant.1 (λ q h. c.loop-p.invariant.2 q (omega arith)) c.loop-p.invariant.3
+    unmarked-written c.args.w _ c.args.copied.now c.fill.new.self work c.requires c.told-copied (omega arith) (c.fill.ensures.after (λ y e. e))

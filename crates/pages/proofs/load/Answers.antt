@@ -5,4 +5,4 @@ use Rattle.pages.proofs.load.Goals as goal
 
 pub returns : goal.returns
 unfolding load_word
-returns c = omega (arith, c.word.ensures, c.load_byte-2.ensures, c.load_byte.ensures)
+returns c = omega arith
