@@ -5,7 +5,9 @@ use native.Mathlib.Numerals.{add-one}
 use mathlib.Core.Logic.{inl, inr}
 use mathlib.Core.Path.{◌≡◌, refl, sym, ap, ◌∙◌}
 use mathlib.Core.List.{List, [], ◌∷◌}
-use lib.ListN.{length, get_or}
+use lib.ListN.{length, get_or, take, drop}
+use lib.Seq.{get_or-take, get_or-drop}
+use Rattle.std.specs.Simd.{first_chunks}
 use Rattle.protocol.specs.Format.{word}
 use Rattle.protocol.specs.Calls.{memory_length}
 use Rattle.protocol.specs.Sum.{sum_of}
@@ -30,6 +32,36 @@ words-parted memory a j (suc k) =
     let place : a + 2 * (j + k) ≡ a + 2 * j + 2 * k = omega arith in
     ap (λ (n : ℕ). words_from memory a n) e
     ∙ omega (arith, words-parted memory a j k, ap (λ (n : ℕ). word_at memory n) place)
+
+-- ---- the words of a stretch, as chunks of two bytes
+
+chunk_at : (k : ℕ) (xs : List ℕ) (i j : ℕ) → i < k → j < 2 → get_or (get_or (first_chunks 2 k xs) i []) j 0 ≡ get_or xs (2 * i + j) 0
+chunk_at zero xs i j h l = absurd (omega arith)
+chunk_at (suc k) xs zero j h l = let e : j ≡ 2 * 0 + j = omega arith in get_or-take 2 xs j 0 l ∙ ap (λ (n : ℕ). get_or xs n 0) e
+chunk_at (suc k) xs (suc i) j h l =
+    let e : 2 + (2 * i + j) ≡ 2 * suc i + j = omega arith in
+    chunk_at k (drop 2 xs) i j (omega arith) l ∙ get_or-drop 2 xs (2 * i + j) 0 ∙ ap (λ (n : ℕ). get_or xs n 0) e
+
+module _ (memory : List ℕ) (a n k : ℕ) (chunks : List (List ℕ)) (are : chunks ≡ first_chunks 2 k (take n (drop a memory))) (i : ℕ) (h : i < k)
+    (inside : 2 * i + 1 < n) where
+  byte_of : (j : ℕ) → j < 2 → get_or (get_or chunks i []) j 0 ≡ get_or memory (a + (2 * i + j)) 0
+  byte_of j l =
+      ap (λ (cs : List (List ℕ)). get_or (get_or cs i []) j 0) are
+      ∙ chunk_at k (take n (drop a memory)) i j h l
+      ∙ get_or-take n (drop a memory) (2 * i + j) 0 (omega arith)
+      ∙ get_or-drop a memory (2 * i + j) 0
+
+  pub word_of : word (get_or (get_or chunks i []) 0 0) (get_or (get_or chunks i []) 1 0) ≡ word_at memory (a + 2 * i)
+  word_of =
+      let low : a + (2 * i + 0) ≡ a + 2 * i = omega arith in
+      let high : a + (2 * i + 1) ≡ a + 2 * i + 1 = omega arith in
+      omega (
+        arith,
+        byte_of 0 (omega arith),
+        byte_of 1 (omega arith),
+        ap (λ (x : ℕ). get_or memory x 0) low,
+        ap (λ (x : ℕ). get_or memory x 0) high,
+      )
 
 -- the same bytes, the same sum
 pub words_same : (memory memory' : List ℕ) (a k : ℕ) → ((i : ℕ) → a ≤ i → i < a + 2 * k → get_or memory' i 0 ≡ get_or memory i 0)

@@ -17,20 +17,14 @@ use pages::{Page, SLOTS, discard};
 
 const HALF_COUNT: usize = Page::COUNT / 2;
 
-// Whether a byte of a block of a working copy differs from its twin. Each is looked at, so that the loop becomes vector code.
+// Whether a byte of a block of a working copy differs from its twin. The blocks are compared as arrays, whose length the compiler knows.
 fn differs(work: &[u8], at: usize) -> bool
     requires { at + page_size + block_size ≤ length work.now }
     ensures { result ≡ any_differs work.now at block_size }
 {
-    let mut any = false;
-    let mut i = 0;
-    while i < Block::SIZE {
-        let b = work[at + i];
-        let t = work[at + Page::SIZE + i];
-        any = any | (b != t);
-        i += 1;
-    }
-    any
+    let twin = at + Page::SIZE;
+    let mine = work[at..at + Block::SIZE].first_chunk::<{ Block::SIZE }>();
+    mine != work[twin..twin + Block::SIZE].first_chunk()
 }
 
 // Writes the bytes of a block that differ from their twins. Each byte is written, changed or not, so that the loop becomes vector code.
@@ -39,13 +33,11 @@ fn write_block(memory: &mut [u8], work: &[u8], first: usize, at: usize)
     ensures { BytesWritten first at block_size work.now memory.old memory.new
         × BlockMoved first memory.old memory.new }
 {
-    let mut i = 0;
-    while i < Block::SIZE {
+    for i in 0..Block::SIZE {
         let b = work[at + i];
         let t = work[at + Page::SIZE + i];
         let m = memory[first + i];
         memory[first + i] = if b != t { b } else { m };
-        i += 1;
     }
 }
 
@@ -82,10 +74,9 @@ fn commit_page(
     let first = Page::SIZE * p;
     let at = Page::PAIR * slot;
     let mut total = sum;
-    let mut k = 0;
-    while k < Page::SIZE {
-        total = commit_block(memory, work, first + k, at + k, total);
-        k += Block::SIZE;
+    for k in 0..Block::COUNT {
+        let offset = Block::SIZE * k;
+        total = commit_block(memory, work, first + offset, at + offset, total);
     }
     total
 }
@@ -95,11 +86,10 @@ fn any_copy(copied: &[bool; SLOTS], w: usize, from: usize, count: usize) -> bool
     requires { (w < workers_limit) × (from + count ≤ page_count) }
     ensures { result ≡ any_copied copied.now w from count }
 {
+    let first = Page::COUNT * w + from;
     let mut any = false;
-    let mut k = 0;
-    while k < count {
-        any = any | copied[Page::COUNT * w + from + k];
-        k += 1;
+    for mark in &copied[first..first + count] {
+        any = any | *mark;
     }
     any
 }
@@ -121,11 +111,8 @@ fn commit_pages(
         return sum;
     }
     let mut total = sum;
-    let mut k = 0;
-    while k < HALF_COUNT {
-        let p = from + k;
+    for p in from..from + HALF_COUNT {
         total = commit_page(memory, work, copied, p, Page::COUNT * w + p, total);
-        k += 1;
     }
     total
 }

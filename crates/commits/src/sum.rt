@@ -4,8 +4,7 @@ ghost use Rattle.protocol.specs.Calls.{memory_length};
 ghost use Rattle.protocol.specs.Sum.{sum_of};
 ghost use Rattle.commits.specs.Blocks.{block_size, BlockSummed};
 
-use pages::MEMORY_LENGTH;
-use words::word_at;
+use pages::{MEMORY_LENGTH, Page};
 
 // A stretch of a page whose words are summed at once.
 #[derive(Clone, Copy)]
@@ -14,7 +13,8 @@ pub struct Block;
 impl Block {
     pub const SIZE: usize = 64;
 
-    pub const WORDS: usize = Block::SIZE / 2;
+    // of a page
+    pub const COUNT: usize = Page::SIZE / Block::SIZE;
 }
 
 // The sum of a block's words. 32 bits throughout, so that the loop becomes vector code of four lanes.
@@ -22,11 +22,10 @@ pub fn block_sum(memory: &[u8], at: usize) -> u32
     requires { at + block_size ≤ length memory.now }
     ensures { BlockSummed memory.now at result }
 {
+    let (words, _) = memory[at..at + Block::SIZE].as_chunks::<2>();
     let mut sum = 0u32;
-    let mut k = 0;
-    while k < Block::WORDS {
-        sum += word_at(memory, at + 2 * k) as u32;
-        k += 1;
+    for word in words {
+        sum += u32::from(u16::from_le_bytes(*word));
     }
     sum
 }
@@ -37,10 +36,8 @@ pub fn whole_sum(memory: &[u8]) -> u32
     ensures { result ≡ sum_of memory.now }
 {
     let mut sum = 0u32;
-    let mut at = 0;
-    while at < MEMORY_LENGTH {
-        sum += block_sum(memory, at);
-        at += Block::SIZE;
+    for k in 0..MEMORY_LENGTH / Block::SIZE {
+        sum += block_sum(memory, Block::SIZE * k);
     }
     sum
 }

@@ -49,7 +49,7 @@ commit_pages-half-requires c =
       c.requires.0,
       c.requires.1,
       search rules,
-      summed a.memory.now a.sum c.requires.0.memory_length (λ i. omega (arith, c.slice_known-1.given i)) c.requires.2,
+      summed a.memory.now a.sum c.requires.0.memory_length (λ i. search rules) c.requires.2,
     )
 
 pub returns : goal.returns

@@ -18,4 +18,4 @@ returns-then-not-differs c =
 pub returns : goal.returns
 returns c =
     let sized : length c.write_block.new.memory ≡ memory_length = omega arith in
-    (search rules, summed c.write_block.new.memory _ sized (λ i. omega (arith, c.slice_known-2-1.given i)) (omega arith))
+    (search rules, summed c.write_block.new.memory _ sized (λ i. search rules) (omega arith))

@@ -1,4 +1,4 @@
--- `commit_pages`: after k turns the commit has done k pages more, and the sum is that of memory as it stands.
+-- `commit_pages`: the commit has done the pages before the one at hand, and the sum is that of memory as it stands.
 use borrow.Author.Rules.{rules}
 use Prim.Native.Nat.{ℕ, ◌+◌, ◌<◌}
 use native.Mathlib.Omega.{arith}
@@ -24,17 +24,22 @@ returns-then-not-any_copy c =
       search rules,
     )
 
-pub loop-k-preserved : goal.loop-k-preserved
-loop-k-preserved c =
+pub loop-p-preserved : goal.loop-p-preserved
+loop-p-preserved c =
     let a = c.args in
     let copies = copies_in a.copied.now a.work.now a.w in
-    let p = a.from + c.loop-k.k in
-    let h : p < page_count = omega (arith, c.requires, c.loop-k-test.true) in
-    let next : p + 1 ≡ a.from + (c.loop-k.k + 1) = omega arith in (
-      search rules,
-      search rules,
-      λ first e. pages-more copies first p h (copy_in a.copied.now a.work.now a.w p) c.loop-k.memory c.commit_page-total.new.memory
-          (copies_at a.copied.now a.work.now a.w p h) (c.loop-k.invariant.2 first e) c.commit_page-total.ensures.0
-          ∙ ap (λ (n : ℕ). commit (take n copies) first) next,
-      c.commit_page-total.ensures.1,
-    )
+    let p = c.loop-p.p in
+    let h : p < page_count = omega (arith, c.requires, c.loop-p-test.true) in
+    record {
+      size = search rules;
+      done = λ first e. pages-more copies first p h (copy_in a.copied.now a.work.now a.w p) c.loop-p.memory c.commit_page-total.new.memory
+          (copies_at a.copied.now a.work.now a.w p h) (c.loop-p.invariant.done first e) c.commit_page-total.ensures.0;
+      summed = c.commit_page-total.ensures.1;
+    }
+
+pub returns : goal.returns
+returns c =
+    let a = c.args in
+    let copies = copies_in a.copied.now a.work.now a.w in
+    let all : c.loop-p.p ≡ a.from + half_count = omega arith in
+    (λ first e. c.loop-p.invariant.done first e ∙ ap (λ (n : ℕ). commit (take n copies) first) all, c.loop-p.invariant.summed)

@@ -1,17 +1,11 @@
--- `differs`: after i turns, whether one of the first i bytes differs from its twin.
-use native.Mathlib.Numerals.{add-one}
+-- `differs`: two blocks that are compared whole.
 use native.Mathlib.Omega.{arith}
-use mathlib.Core.Path.{refl}
-use borrow.Author.Rules.{rules}
-use Rattle.commits.specs.Blocks.{any_differs}
-use Rattle.commits.proofs.Writing.{differs_more}
+use mathlib.Core.Path.{◌∙◌}
+use Rattle.commits.proofs.Writing.{chunks_compared}
 use Rattle.commits.proofs.differs.Goals as goal
 
-pub loop-i-init : goal.loop-i-init
-unfolding any_differs
-loop-i-init c = (omega arith, refl)
-
-pub loop-i-preserved : goal.loop-i-preserved
-loop-i-preserved c =
-    let a = c.args in
-    (search rules, rw add-one (differs_more a.work.now a.at c.loop-i.i _ _ c.loop-i.any c.loop-i.invariant.1 (omega arith) (omega arith)))
+pub returns : goal.returns
+returns c =
+    c.ne.ensures
+    ∙ chunks_compared c.args.work.now c.args.at c.requires _ _ c.first_chunk-mine.result c.first_chunk.result (omega arith) (omega arith)
+    c.first_chunk-mine.ensures.cases c.first_chunk.ensures.cases

@@ -10,5 +10,5 @@ pub returns : goal.returns
 returns c =
     let a = c.args in
     let all : c.loop-i.i ≡ block_size = omega arith in
-    let written = subst (λ (n : ℕ). BytesWritten a.first a.at n a.work.now a.memory.now c.loop-i.memory) all c.loop-i.invariant.2 in
+    let written = subst (λ (n : ℕ). BytesWritten a.first a.at n a.work.now a.memory.now c.loop-i.memory) all c.loop-i.invariant.written in
     (written, block-moves a.first a.at a.work.now a.memory.now c.loop-i.memory c.requires.bytes.memory_length c.requires.whole c.requires.inside written)
