@@ -23,54 +23,9 @@ use Rattle.commits.specs.Blocks.{block_size, any_differs, left_of, BytesWritten}
 pub written_none : (first at : ℕ) (work memory : List ℕ) → BytesWritten first at 0 work memory memory
 written_none first at work memory = record { here = λ i h. absurd (omega arith); elsewhere = λ j h. refl; size = refl }
 
--- the choice of a byte, however the code tests for it
-abbrev pub Chosen : ℕ → ℕ → ℕ → ℕ → Type 0
-Chosen shared b t v = (b ≡ t → v ≡ shared) × ((b ≡ t → ⊥) → v ≡ b)
-
-chosen : (shared b t v : ℕ) → Chosen shared b t v → v ≡ left_of b t shared
-chosen shared b t v (same, differs) = elim (ℕ_discrete b t) [
-  | yes e ↦ rw (eq-eqb b t e) (same e)
-  | no ne ↦ rw (ne_eqb b t ne) (differs ne)
-]
-
 module _ (first at : ℕ) (work memory : List ℕ) where
   abbrev left : ℕ → ℕ → ℕ
   left i shared = left_of (get_or work (at + i) 0) (get_or work (at + page_size + i) 0) shared
-
-  -- one byte behind i of them
-  written_next : (m : List ℕ) (i v : ℕ) → BytesWritten first at i work memory m → first + i < length m
-      → Chosen (get_or m (first + i) 0) (get_or work (at + i) 0) (get_or work (at + page_size + i) 0) v
-      → BytesWritten first at (i + 1) work memory (set m (first + i) v)
-  written_next m i v w inside f =
-      record {
-        here = λ k h. elim (ℕ_discrete k i) [
-          | yes e ↦ subst⁻¹ (λ (n : ℕ). get_or (set m (first + i) v) (first + n) 0 ≡ left n (get_or memory (first + n) 0)) e last
-          | no ne ↦ get_or-set_other m (first + i) (first + k) v 0 (λ e. ne (omega arith)) ∙ w.here k (omega arith)
-        ];
-        elsewhere = λ j h. get_or-set_other m (first + i) j v 0 (apart j h) ∙ w.elsewhere j (further j h);
-        size = length-set m (first + i) v ∙ w.size;
-      }
-    where
-      last : get_or (set m (first + i) v) (first + i) 0 ≡ left i (get_or memory (first + i) 0)
-      last =
-          get_or-set_same m (first + i) v 0 inside
-          ∙ chosen (get_or m (first + i) 0) _ _ v f
-          ∙ ap (λ (s : ℕ). left i s) (w.elsewhere (first + i) (inr (omega arith)))
-
-      apart : (j : ℕ) → (j < first) ⊎ (first + (i + 1) ≤ j) → j ≡ first + i → ⊥
-      apart j (inl h) e = omega arith
-      apart j (inr h) e = omega arith
-
-      further : (j : ℕ) → (j < first) ⊎ (first + (i + 1) ≤ j) → (j < first) ⊎ (first + i ≤ j)
-      further j (inl h) = inl h
-      further j (inr h) = inr (omega arith)
-
-  -- .. wherever the code works out that it stands
-  pub written-more : (m : List ℕ) (i x v : ℕ) → BytesWritten first at i work memory m → x < length m → x ≡ first + i
-      → Chosen (get_or m x 0) (get_or work (at + i) 0) (get_or work (at + page_size + i) 0) v
-      → BytesWritten first at (i + 1) work memory (set m x v)
-  written-more m i x v w inside e f =
-      subst⁻¹ (λ (n : ℕ). BytesWritten first at (i + 1) work memory (set m n v)) e (written_next m i v w (rw e at inside) (rw e at f))
 
   -- n bytes behind k of them
   pub written_on : (m m' : List ℕ) (k n : ℕ) → BytesWritten first at k work memory m → BytesWritten (first + k) (at + k) n work m m'
