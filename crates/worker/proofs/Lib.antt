@@ -1,4 +1,4 @@
 -- A register's digit, taken out and put in by shifts.
-mod Registers
+mod Digits
 -- An own step by its op is what the definitions say.
 pub mod OwnSteps

@@ -3,14 +3,14 @@
 use Rattle.std.proofs.Common.{◌≡◌, ℕ, ◌+◌, ◌-◌, ◌%◌, ◌<◌, ◌≤◌, Bool, true, false, cond, not, eqb, List, get_or, refl, arith, eq-eqb, ne_eqb}
 use native.Mathlib.Decide.{ℕ_discrete}
 use mathlib.Core.Option.{none, some}
+use Rattle.std.specs.Prelude.{Some, None}
 use Rattle.protocol.specs.Format.{steps_limit, Record, row_in, row_of, step_of, own, sync, exit}
 use Rattle.protocol.specs.Pages.{Copies, load_word}
 use Rattle.protocol.specs.Steps as steps
 use Rattle.protocol.specs.Steps.{Fate, own_step, setting, place_as}
 use Rattle.protocol.proofs.Each.{each}
 use Rattle.worker.specs.declared.Worker.{Worker}
-use Rattle.worker.specs.declared.Synchronised.{Synchronised}
-use Rattle.worker.specs.declared.Outcome.TheVariants.{Private, Stores}
+use Rattle.worker.specs.declared.Moved.{Moved}
 use Rattle.worker.specs.Private.{registers_of, viewed, held_as, Replaced, own_of, result_of, skip_of, OwnStepping, OwnStepped}
 
 -- the step of a record of the plan file
@@ -87,13 +87,13 @@ at place v = record { place = place; held = v.held; registers = v.registers }
 
 -- what the three ways through a step give, from what the code has found
 module _ (v : Worker) (op register number loaded : ℕ) (ready : OwnStepping v op register number) {value : ℕ} (holds : value ≡ get_or (registers_of v) register 0) where
-  pub stores : op ≡ 18 → OwnStepped v op register number loaded (record { worker = at (v.place + 1) v; outcome = Stores value })
+  pub stores : op ≡ 18 → OwnStepped v op register number loaded (record { worker = at (v.place + 1) v; outcome = Some value })
   unfolding own_of own_step
   stores e = record { step = λ memory locks arrived copies fate read. rw (e, holds); held = refl }
 
   pub skips :
       21 ≤ op → {skip : ℕ} → skip ≡ skip_of op value number
-      → OwnStepped v op register number loaded (record { worker = at (v.place + 1 + skip) v; outcome = Private })
+      → OwnStepped v op register number loaded (record { worker = at (v.place + 1 + skip) v; outcome = None })
   skips h e =
       record {
         step = λ memory locks arrived copies fate read. rw (e, holds) (skip_step v register number memory locks arrived copies fate op h ready.most);
@@ -103,7 +103,7 @@ module _ (v : Worker) (op register number loaded : ℕ) (ready : OwnStepping v o
   pub sets :
       (op ≡ 18 → ⊥) → op < 21 → {result : ℕ} → result ≡ result_of (registers_of v) op value number loaded
       → {left : Worker} → Replaced (at (v.place + 1) v) register result left
-      → OwnStepped v op register number loaded (record { worker = left; outcome = Private })
+      → OwnStepped v op register number loaded (record { worker = left; outcome = None })
   sets n h e w =
       record {
         step = λ memory locks arrived copies fate read.
@@ -113,6 +113,6 @@ module _ (v : Worker) (op register number loaded : ℕ) (ready : OwnStepping v o
 
 -- a worker that is one place on, with the number of its locks, and the step's outcome
 pub one_on : (v : Worker) (held outcome : ℕ) {place : ℕ} → place ≡ v.place + 1
-    → ◌≡◌ {A = Synchronised} (record { worker = record { place = place; held = held; registers = v.registers }; outcome = outcome })
+    → ◌≡◌ {A = Moved ℕ} (record { worker = record { place = place; held = held; registers = v.registers }; outcome = outcome })
     (record { worker = held_as v held; outcome = outcome })
 one_on v held outcome e = rw e

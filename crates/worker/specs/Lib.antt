@@ -1,2 +1,3 @@
--- A worker's record in the code and in the definitions, and what its steps take and leave.
+-- Registers as four numbers, a worker's record in the code and in the definitions, and what its steps take and leave.
+pub mod Digits
 pub mod Private

@@ -1,21 +1,16 @@
 -- What joins a worker's record in the code to the definitions of Steps, and what its own steps ensure.
-use Rattle.std.specs.Prelude.{◌≡◌, ℕ, ◌+◌, ◌-◌, ◌*◌, ◌/◌, ◌%◌, ◌^◌, ◌<◌, ◌≤◌, Bool, cond, not, List, [], ◌∷◌, ◌==◌, slice_index, slice_set}
+use Rattle.std.specs.Prelude.{◌≡◌, ℕ, ◌+◌, ◌-◌, ◌%◌, ◌<◌, ◌≤◌, Bool, cond, not, List, ◌==◌, Option, Some, None, slice_index, slice_set}
 use Rattle.protocol.specs.Ops.{op_set, op_load, op_store, op_add, op_subtract, op_skip_zero, op_skip_nonzero}
 use Rattle.protocol.specs.Format.{register_count, steps_limit, Own, assign, load, store, add, subtract, skip_zero, skip_nonzero}
 use Rattle.protocol.specs.Pages.{Copies, load_word, store_word}
 use Rattle.protocol.specs.Steps as steps
 use Rattle.protocol.specs.Steps.{Fate, worker_of, own_step}
 use Rattle.worker.specs.declared.Worker.{Worker}
-use Rattle.worker.specs.declared.Outcome.{Outcome}
-use Rattle.worker.specs.declared.Outcome.TheVariants.{Private, Stores}
 use Rattle.worker.specs.declared.Moved.{Moved}
 
--- register r is the digit of 2 ^ (16 * r)
-abbrev pub digit : ℕ → ℕ → ℕ
-digit n r = n / 2 ^ (16 * r) % 65536
-
+-- its four registers
 abbrev pub registers_of : Worker → List ℕ
-registers_of v = digit v.registers 0 ∷ digit v.registers 1 ∷ digit v.registers 2 ∷ digit v.registers 3 ∷ []
+registers_of v = v.registers
 
 -- the worker of the definitions: what the record holds, the locks that its number shows, and what the engine keeps beside it
 abbrev pub viewed : Worker → List ℕ → Bool → Copies → Fate → steps.Worker
@@ -53,9 +48,9 @@ unfoldable pub skip_of : ℕ → ℕ → ℕ → ℕ
 skip_of op value number = cond (cond (op == op_skip_zero) (value == 0) (not (value == 0))) number 0
 
 -- the copies after a move: a step that stores leaves that to the caller
-abbrev pub copies_stored : Outcome → List ℕ → Copies → ℕ → Copies
-copies_stored Private memory copies address = copies
-copies_stored (Stores value) memory copies address = store_word memory copies address value
+abbrev pub copies_stored : Option ℕ → List ℕ → Copies → ℕ → Copies
+copies_stored None memory copies address = copies
+copies_stored (Some value) memory copies address = store_word memory copies address value
 
 -- what a step takes: an own step of an accepted plan, and the worker within its steps
 pub record OwnStepping (v : Worker) (op register number : ℕ) : Type 0 where
@@ -67,7 +62,7 @@ pub record OwnStepping (v : Worker) (op register number : ℕ) : Type 0 where
   pub skip : op_skip_zero ≤ op → number < steps_limit
 
 -- what a step gives: the definition's step, whatever the memory, the copies and the locks, where `loaded` is what a load would read
-pub record OwnStepped (v : Worker) (op register number loaded : ℕ) (m : Moved) : Type 0 where
+pub record OwnStepped (v : Worker) (op register number loaded : ℕ) (m : Moved (Option ℕ)) : Type 0 where
   pub step :
       (memory locks : List ℕ) (arrived : Bool) (copies : Copies) (fate : Fate)
       → (op ≡ op_load → loaded ≡ load_word memory copies number)

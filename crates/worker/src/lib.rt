@@ -6,34 +6,25 @@ ghost use Rattle.protocol.specs.Ops.{op_add, op_subtract};
 ghost use Rattle.protocol.specs.Format.{register_count, steps_limit};
 ghost use Rattle.worker.specs.Private.{registers_of, held_as, Replaced, result_of, skip_of, OwnStepping, OwnStepped};
 
+pub mod registers;
+
+use crate::registers::Registers;
 use format::ops;
 
-// held is the set of its locks as one number (`locks`); the registers are one number's digits to base 65536, register 0 lowest.
+// held is the set of its locks as one number (`locks`).
 #[derive(Clone, Copy)]
 pub struct Worker {
     pub place: usize,
     pub held: u64,
-    pub registers: u64,
+    pub registers: Registers,
 }
 
-// What an own step leaves to its caller: nothing, or a number to store.
+// A worker behind one of its steps, and what the step leaves to the caller: an own step the number to store, if it stores one, and a
+// synchronising step the outcome that the log shows.
 #[derive(Clone, Copy)]
-pub enum Outcome {
-    Private,
-    Stores(u16),
-}
-
-#[derive(Clone, Copy)]
-pub struct Moved {
+pub struct Moved<T> {
     pub worker: Worker,
-    pub outcome: Outcome,
-}
-
-// What a synchronising step leaves to its caller: the outcome that the log shows.
-#[derive(Clone, Copy)]
-pub struct Synchronised {
-    pub worker: Worker,
-    pub outcome: u8,
+    pub outcome: T,
 }
 
 impl Worker {
@@ -41,75 +32,70 @@ impl Worker {
         requires { r < register_count }
         ensures { result ≡ slice_index (registers_of self) r }
     {
-        let shift = 16 * (r as u64);
-        ((self.registers >> shift) % 65536) as u16
+        self.registers.get(r)
     }
 
-    pub fn with_register(mut self, r: u8, value: u16) -> Worker
+    pub fn with_register(self, r: u8, value: u16) -> Worker
         requires { r < register_count }
         ensures { Replaced self r value result }
     {
-        let shift = 16 * (r as u64);
-        let old = (self.registers >> shift) % 65536;
-        self.registers = self.registers - (old << shift) + ((value as u64) << shift);
-        self
+        Worker {
+            registers: self.registers.set(r, value),
+            ..self
+        }
     }
 
     // What a step that sets a register puts there.
+    #[tactic(auto, unfolding(crate::specs::Private::result_of))]
     fn result(self, op: u8, value: u16, number: u16, loaded: u16) -> u16
         requires { (op ≤ op_subtract) × (op_add ≤ op → number < register_count) }
         ensures { result ≡ result_of (registers_of self) op value number loaded }
     {
-        if op == ops::LOAD {
-            return loaded;
-        }
-        if op < ops::ADD {
-            return number;
-        }
-        let operand = self.register(number as u8);
-        if op == ops::ADD {
-            std::num::wrapping_add_u16(value, operand)
-        } else {
-            std::num::wrapping_sub_u16(value, operand)
+        match op {
+            ops::LOAD => loaded,
+            ops::ADD => value.wrapping_add(self.registers.get(number as u8)),
+            ops::SUBTRACT => value.wrapping_sub(self.registers.get(number as u8)),
+            _ => number,
         }
     }
 
     // A worker's own step. A load's value is handed in; a store's is handed out.
-    pub fn step(mut self, op: u8, register: u8, number: u16, loaded: u16) -> Moved
+    pub fn step(mut self, op: u8, register: u8, number: u16, loaded: u16) -> Moved<Option<u16>>
         requires { OwnStepping self op register number }
         ensures { OwnStepped self op register number loaded result }
     {
-        let value = self.register(register);
+        let value = self.registers.get(register);
         self.place += 1;
-        if op == ops::STORE {
-            return Moved {
+        match op {
+            ops::STORE => Moved {
                 worker: self,
-                outcome: Outcome::Stores(value),
-            };
-        }
-        if op >= ops::SKIP_ZERO {
-            self.place += skipped(op, value, number);
-            return Moved {
-                worker: self,
-                outcome: Outcome::Private,
-            };
-        }
-        let result = self.result(op, value, number, loaded);
-        let next = self.with_register(register, result);
-        Moved {
-            worker: next,
-            outcome: Outcome::Private,
+                outcome: Some(value),
+            },
+            ops::SKIP_ZERO | ops::SKIP_NONZERO => {
+                self.place += skipped(op, value, number);
+                Moved {
+                    worker: self,
+                    outcome: None,
+                }
+            }
+            _ => {
+                let result = self.result(op, value, number, loaded);
+                Moved {
+                    worker: self.with_register(register, result),
+                    outcome: None,
+                }
+            }
         }
     }
 
     // A synchronising step, by its ruling: the place moves on, and these locks are held.
-    pub fn synchronise(mut self, held: u64, outcome: u8) -> Synchronised
+    pub fn synchronise(mut self, held: u64, outcome: u8) -> Moved<u8>
         requires { self.place ≤ steps_limit }
         ensures { result ≡ record { worker = held_as self held; outcome = outcome } }
     {
         self.place = self.place + 1;
         self.held = held;
-        Synchronised {
+        Moved {
             worker: self,
             outcome,
         }
@@ -117,6 +103,7 @@ impl Worker {
 }
 
 // How many steps a skip passes over.
+#[tactic(auto, unfolding(crate::specs::Private::skip_of))]
 fn skipped(op: u8, value: u16, number: u16) -> usize
     ensures { result ≡ skip_of op value number }
 {

@@ -1,10 +1,7 @@
 -- A register's digit, taken out and put in by shifts. Assumes nothing.
-use Rattle.std.proofs.Common.{◌≡◌, ℕ, ◌+◌, ◌-◌, ◌*◌, ◌/◌, ◌%◌, ◌^◌, ◌<◌, ◌≤◌, List, [], ◌∷◌, get_or, set, refl, arith}
+use Rattle.std.proofs.Common.{◌≡◌, ℕ, ◌+◌, ◌-◌, ◌*◌, ◌/◌, ◌%◌, ◌^◌, ◌<◌, ◌≤◌, [], ◌∷◌, get_or, set, refl, arith}
 use Rattle.protocol.proofs.Each.{each}
-use Rattle.worker.specs.Private.{digit}
-
-abbrev digits : ℕ → List ℕ
-digits n = digit n 0 ∷ digit n 1 ∷ digit n 2 ∷ digit n 3 ∷ []
+use Rattle.worker.specs.Digits.{digit, digits}
 
 pub digit_at : (n r : ℕ) → r < 4 → digit n r ≡ get_or (digits n) r 0
 digit_at n r l = each (λ k. digit n k ≡ get_or (digits n) k 0) 0 3 refl refl refl refl r (omega arith) (omega arith)
