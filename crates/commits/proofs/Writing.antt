@@ -4,12 +4,12 @@ use native.Mathlib.Omega.{arith}
 use native.Mathlib.Decide.{ℕ_discrete, dec_lt}
 use mathlib.Core.Bool.{Bool, true, false, cond, not}
 use mathlib.Core.Logic.{◌⊎◌, inl, inr}
-use mathlib.Core.Path.{◌≡◌, refl, sym, ap, ◌∙◌, subst, subst⁻¹}
+use mathlib.Core.Path.{◌≡◌, refl, sym, ap, ◌∙◌, subst}
 use mathlib.Core.List.{List}
 use lib.Dec.{eqb}
-use lib.ListN.{length, get_or, set, take, drop, length-set, length-take, length-drop}
-use lib.Seq.{ext_get_or, get_or-set_same, get_or-set_other, get_or-take, get_or-drop, take-take}
-use borrow.Author.Tests.{eq-eqb, ne_eqb, not-false}
+use lib.ListN.{length, get_or, take, drop, length-take, length-drop}
+use lib.Seq.{ext_get_or, get_or-take, get_or-drop, take-take}
+use borrow.Author.Tests.{eq-eqb, not-false}
 use Rattle.std.proofs.Common.{nat_eq, Bor, Option, Some, None, MatchOption}
 use Rattle.std.proofs.lemmas.Bool.{eqb-true, true_from_ne_false}
 use Rattle.std.specs.Array.{IsFirstChunk}

@@ -74,9 +74,11 @@ fn commit_page(
     let first = Page::SIZE * p;
     let at = Page::PAIR * slot;
     let mut total = sum;
-    for k in 0..Block::COUNT {
-        let offset = Block::SIZE * k;
-        total = commit_block(memory, work, first + offset, at + offset, total);
+    // counted by bytes: with `for` over the blocks "commits of eight pages" take 1.6 % more instructions
+    let mut k = 0;
+    while k < Page::SIZE {
+        total = commit_block(memory, work, first + k, at + k, total);
+        k += Block::SIZE;
     }
     total
 }

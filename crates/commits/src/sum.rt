@@ -4,7 +4,7 @@ ghost use Rattle.protocol.specs.Calls.{memory_length};
 ghost use Rattle.protocol.specs.Sum.{sum_of};
 ghost use Rattle.commits.specs.Blocks.{block_size, BlockSummed};
 
-use pages::{MEMORY_LENGTH, Page};
+use pages::MEMORY_LENGTH;
 
 // A stretch of a page whose words are summed at once.
 #[derive(Clone, Copy)]
@@ -12,9 +12,6 @@ pub struct Block;
 
 impl Block {
     pub const SIZE: usize = 64;
-
-    // of a page
-    pub const COUNT: usize = Page::SIZE / Block::SIZE;
 }
 
 // The sum of a block's words. 32 bits throughout, so that the loop becomes vector code of four lanes.

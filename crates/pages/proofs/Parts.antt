@@ -1,12 +1,12 @@
--- A page's worth of a list, after a store and after a stretch is written over: there, or elsewhere.
+-- A page's worth of a list, after a store and after a copy, and a stretch that is written over: there, or elsewhere.
 use Prim.Native.Nat.{ℕ, ◌+◌, ◌-◌, ◌<◌, ◌≤◌}
 use native.Mathlib.Decide.{dec_lt}
 use native.Mathlib.Omega.{arith}
 use mathlib.Core.Path.{◌≡◌, sym, ap, ◌∙◌, subst}
 use mathlib.Core.Logic.{◌⊎◌, inl, inr}
-use mathlib.Core.List.{List, ◌++◌}
+use mathlib.Core.List.{List, ◌++◌, append_assoc}
 use lib.ListN.{length, get_or, set, take, drop, length-take, length-drop, get_or-append, take-append-drop, get_or-eq_default}
-use lib.Seq.{take-append-le, drop-append-le, length-take-le, take_at, drop_at}
+use lib.Seq.{take-append-le, drop-append-le, length-take-le, take_at, drop_at, drop-drop, drop-paste, paste}
 use lib.Seq.{take-set-lt, take-set-le, drop-set-add, drop-set-lt, get_or-take, get_or-drop, get_or-set_same, set_out}
 use borrow.Rule.Slice.PartMut.{put_mid, same_len_mid}
 use Rattle.std.proofs.lemmas.Slice.{drop-put_mid}
@@ -41,6 +41,35 @@ get_or-set-default {A} l i d = elim (dec_lt i (length l)) [
   | no h ↦ ap (λ (k : List A). get_or k i d) (set_out l i d (omega arith)) ∙ get_or-eq_default l d (omega arith)
 ]
 
+-- ---- a copy of n elements
+
+part-front : (b : ℕ) (xs ys : List ℕ) → b + page_size ≤ length xs → part b (xs ++ ys) ≡ part b xs
+part-front b xs ys h =
+    ap (λ (k : List ℕ). take page_size k) (drop-append-le b xs ys (omega arith))
+    ∙ take-append-le page_size (drop b xs) ys (simp length-drop (omega arith))
+
+module _ (d s : List ℕ) (at : ℕ) (inside : at + page_size ≤ length d) (enough : page_size ≤ length s) where
+  pub part-paste-here : part at (paste d at s page_size) ≡ take page_size s
+  part-paste-here =
+      ap (λ (l : List ℕ). part at l) (append_assoc (take at d) (take page_size s) (drop (at + page_size) d))
+      ∙ ap (λ (l : List ℕ). take page_size l) (drop_at (take at d) _ at (length-take-le at d (omega arith)))
+      ∙ take_at (take page_size s) _ page_size (length-take-le page_size s enough)
+
+  pub part-paste-apart : (b : ℕ) → Disjoint at page_size b → part b (paste d at s page_size) ≡ part b d
+  part-paste-apart b (inl h) =
+      let past : at + page_size + (b - (at + page_size)) ≡ b = omega arith in
+      subst (λ (k : ℕ). part k (paste d at s page_size) ≡ part k d) past
+      (ap (λ (l : List ℕ). take page_size l)
+      (sym (drop-drop _ (at + page_size) (paste d at s page_size))
+      ∙ ap (λ (l : List ℕ). drop (b - (at + page_size)) l) (drop-paste d at s page_size (omega arith) enough)
+      ∙ drop-drop _ (at + page_size) d))
+  part-paste-apart b (inr h) =
+      let fits : b + page_size ≤ length (take at d) = rw (length-take-le at d (omega arith)) h in
+      ap (λ (l : List ℕ). part b l) (append_assoc (take at d) (take page_size s) (drop (at + page_size) d))
+      ∙ part-front b (take at d) _ fits
+      ∙ sym (part-front b (take at d) (drop at d) fits)
+      ∙ ap (λ (l : List ℕ). part b l) (take-append-drop at d)
+
 -- ---- a stretch of k elements written over
 
 module _ {X : Type 0} (a k : ℕ) (xs ys : List X) (inside : a + k ≤ length xs) (size : length ys ≡ k) where
@@ -62,24 +91,3 @@ module _ {X : Type 0} (a k : ℕ) (xs ys : List X) (inside : a + k ≤ length xs
       (sym (get_or-drop (a + k) (put_mid a k xs ys) (i - (a + k)) d)
       ∙ ap (λ (l : List X). get_or l (i - (a + k)) d) (drop-put_mid a k xs ys (a + k) (omega arith) (omega arith) size)
       ∙ get_or-drop (a + k) xs (i - (a + k)) d)
-
-part-front : (b : ℕ) (xs ys : List ℕ) → b + page_size ≤ length xs → part b (xs ++ ys) ≡ part b xs
-part-front b xs ys h =
-    ap (λ (k : List ℕ). take page_size k) (drop-append-le b xs ys (omega arith))
-    ∙ take-append-le page_size (drop b xs) ys (simp length-drop (omega arith))
-
--- a page's worth of them
-module _ (at k : ℕ) (d s : List ℕ) (whole : k ≡ page_size) (inside : at + page_size ≤ length d) (size : length s ≡ page_size) where
-  pub part-written-here : part at (put_mid at k d s) ≡ s
-  part-written-here =
-      ap (λ (l : List ℕ). take page_size l) (drop_at (take at d) _ at (length-take-le at d (omega arith)))
-      ∙ take_at s _ page_size size
-
-  pub part-written-apart : (b : ℕ) → Disjoint at page_size b → part b (put_mid at k d s) ≡ part b d
-  part-written-apart b (inl h) =
-      ap (λ (l : List ℕ). take page_size l) (drop-put_mid at k d s b (omega arith) (omega arith) (omega arith))
-  part-written-apart b (inr h) =
-      let fits : b + page_size ≤ length (take at d) = rw (length-take-le at d (omega arith)) h in
-      part-front b (take at d) _ fits
-      ∙ sym (part-front b (take at d) (drop at d) fits)
-      ∙ ap (λ (l : List ℕ). part b l) (take-append-drop at d)

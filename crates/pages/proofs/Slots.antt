@@ -6,15 +6,15 @@ use mathlib.Core.Path.{◌≡◌, refl, sym, ap, ◌∙◌, subst, subst⁻¹}
 use mathlib.Core.Logic.{◌⊎◌, inl, inr}
 use mathlib.Core.Bool.{Bool, true, false}
 use mathlib.Core.List.{List}
-use lib.ListN.{length, get_or, set, drop, length-set, length-take, length-drop, replicate, length-replicate}
-use lib.Seq.{ext_get_or, get_or-set_same, get_or-set_other}
+use lib.ListN.{length, get_or, set, take, drop, length-set, length-take, length-drop, replicate, length-replicate}
+use lib.Seq.{ext_get_or, get_or-set_same, get_or-set_other, paste, length-paste}
 use borrow.Rule.Slice.PartMut.{mid_of, put_mid}
 use Rattle.protocol.specs.Format.{workers_limit}
 use Rattle.protocol.specs.Calls.{memory_length, work_length}
 use Rattle.protocol.specs.Pages.{page_size, page_count, page, Copy, absent, copied, Copies, no_copies, page_of, offset_of, copy_of, loaded, load_byte, opened, stored, store_byte, store_word}
 use Rattle.protocol.proofs.Lists.{get_or-copies, length-counted, mapped}
 use Rattle.pages.specs.Copies.{slot_count, part, slot_of, copy_at, twin_at, marked, slot_copy, copy_in, copies_in, SlotHolds, WorkerHolds}
-use Rattle.pages.proofs.Parts.{Disjoint, get_or-part, part-set-here, part-set-apart, length-written, written_here, written_apart, part-written-here, part-written-apart}
+use Rattle.pages.proofs.Parts.{Disjoint, get_or-part, part-set-here, part-set-apart, part-paste-here, part-paste-apart, length-written, written_here, written_apart}
 
 -- ---- what a slot holds
 
@@ -165,61 +165,56 @@ store-slot slot offset byte copy marks work marks' work' h holds =
 
 -- a page copied twice into a slot that was not in use
 module _ (slot p : ℕ) (memory : List ℕ) (marks : List Bool) (work : List ℕ) (ph : p < page_count) (lm : length memory ≡ memory_length)
-    (lw : length work ≡ work_length) (sh : slot < slot_count) (lk : length marks ≡ slot_count) (off : get_or marks slot false ≡ false)
-    (k₁ k₂ : ℕ) (s₁ s₂ : List ℕ) (whole₁ : k₁ ≡ page_size) (whole₂ : k₂ ≡ page_size) (e₁ : s₁ ≡ page memory p) (e₂ : s₂ ≡ page memory p) where
+    (lw : length work ≡ work_length) (sh : slot < slot_count) (lk : length marks ≡ slot_count) (off : get_or marks slot false ≡ false) where
+  abbrev source : List ℕ
+  source = drop (page_size * p) memory
+
   abbrev once : List ℕ
-  once = put_mid (copy_at slot) k₁ work s₁
+  once = paste work (copy_at slot) source page_size
 
   abbrev twice : List ℕ
-  twice = put_mid (twin_at slot) k₂ once s₂
+  twice = paste once (twin_at slot) source page_size
 
-  page_length : length (page memory p) ≡ page_size
-  unfolding page
-  page_length = omega (arith, length-take page_size (drop (page_size * p) memory), length-drop (page_size * p) memory)
+  enough : page_size ≤ length source
+  enough = simp length-drop (omega arith)
 
-  size₁ : length s₁ ≡ page_size
-  size₁ = ap length e₁ ∙ page_length
-
-  size₂ : length s₂ ≡ page_size
-  size₂ = ap length e₂ ∙ page_length
-
-  inside₁ : copy_at slot + page_size ≤ length work
-  inside₁ = omega arith
+  inside : copy_at slot + page_size ≤ length work
+  inside = omega arith
 
   once-size : length once ≡ length work
-  once-size = length-written (copy_at slot) k₁ work s₁ (omega arith) (size₁ ∙ sym whole₁)
+  once-size = length-paste work (copy_at slot) source page_size inside enough
 
-  inside₂ : twin_at slot + page_size ≤ length once
-  inside₂ = rw once-size (omega arith)
+  inside' : twin_at slot + page_size ≤ length once
+  inside' = rw once-size (omega arith)
 
   untouched : (b : ℕ) → Disjoint (copy_at slot) page_size b → Disjoint (twin_at slot) page_size b → part b twice ≡ part b work
-  untouched b h₁ h₂ =
-      part-written-apart (twin_at slot) k₂ once s₂ whole₂ inside₂ size₂ b h₂ ∙ part-written-apart (copy_at slot) k₁ work s₁ whole₁ inside₁ size₁ b h₁
+  untouched b h₁ h₂ = part-paste-apart once source (twin_at slot) inside' enough b h₂ ∙ part-paste-apart work source (copy_at slot) inside enough b h₁
 
-  working-copy : part (copy_at slot) twice ≡ page memory p
+  working-copy : part (copy_at slot) twice ≡ take page_size source
   working-copy =
-      part-written-apart (twin_at slot) k₂ once s₂ whole₂ inside₂ size₂ (copy_at slot) (inr (omega arith))
-      ∙ part-written-here (copy_at slot) k₁ work s₁ whole₁ inside₁ size₁
-      ∙ e₁
+      part-paste-apart once source (twin_at slot) inside' enough (copy_at slot) (inr (omega arith))
+      ∙ part-paste-here work source (copy_at slot) inside enough
 
-  twin : part (twin_at slot) twice ≡ page memory p
-  twin = part-written-here (twin_at slot) k₂ once s₂ whole₂ inside₂ size₂ ∙ e₂
-
-  pub open-slot : SlotHolds slot (opened (page memory p) (slot_copy marks work slot)) marks work (set marks slot true) twice
-  open-slot =
+  pub open-slot : (work₁ work₂ : List ℕ) → work₁ ≡ paste work (copy_at slot) (drop (page_size * p) memory) page_size
+      → work₂ ≡ paste work₁ (twin_at slot) (drop (page_size * p) memory) page_size
+      → SlotHolds slot (opened (page memory p) (slot_copy marks work slot)) marks work (set marks slot true) work₂
+  unfolding page
+  open-slot work₁ work₂ e₁ e₂ =
+      subst⁻¹ (λ (l : List ℕ). SlotHolds slot (opened (page memory p) (slot_copy marks work slot)) marks work (set marks slot true) l)
+      (e₂ ∙ ap (λ (l : List ℕ). paste l (twin_at slot) source page_size) e₁)
       record {
         here =
             in_use (set marks slot true) twice slot (get_or-set_same marks slot true false (omega arith))
             ∙ ap (λ (l : List ℕ). copied l (part (twin_at slot) twice)) working-copy
-            ∙ ap (λ (l : List ℕ). copied (page memory p) l) twin
-            ∙ sym (ap (λ (k : Copy). opened (page memory p) k) (not-in-use marks work slot off));
+            ∙ ap (λ (l : List ℕ). copied (take page_size source) l) (part-paste-here once source (twin_at slot) inside' enough)
+            ∙ sym (ap (λ (k : Copy). opened (take page_size source) k) (not-in-use marks work slot off));
         elsewhere = λ s ne.
             same-slot marks (set marks slot true) work twice s (get_or-set_other marks slot s true false ne)
             (untouched (copy_at s) (slots_apart slot s _ _ _ ne (omega arith) (omega arith) (omega arith) (omega arith))
             (slots_apart slot s _ _ _ ne (omega arith) (omega arith) (omega arith) (omega arith)))
             (untouched (twin_at s) (slots_apart slot s _ _ _ ne (omega arith) (omega arith) (omega arith) (omega arith))
             (slots_apart slot s _ _ _ ne (omega arith) (omega arith) (omega arith) (omega arith)));
-        size = length-written (twin_at slot) k₂ once s₂ (omega (arith, inside₂)) (size₂ ∙ sym whole₂) ∙ once-size;
+        size = length-paste once (twin_at slot) source page_size inside' enough ∙ once-size;
         mark_size = length-set marks slot true;
       }
 
