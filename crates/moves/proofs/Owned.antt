@@ -4,6 +4,7 @@ use mathlib.Core.Bool.{Bool, true, false, cond}
 use mathlib.Core.Path.{◌≡◌, refl, sym, ap, ◌∙◌, subst⁻¹}
 use mathlib.Core.List.{List, []}
 use lib.Dec.{eqb}
+use Rattle.std.proofs.Common.{Option}
 use lib.ListN.{length}
 use borrow.Author.Tests.{eq-eqb, ne_eqb}
 use Rattle.protocol.specs.Ops.{op_load, op_store, op_add, op_subtract, op_skip_zero, op_skip_nonzero}
@@ -18,7 +19,6 @@ use Rattle.worker.proofs.OwnSteps.{step-own}
 use Rattle.worker.specs.Private.{viewed, own_of, copies_stored, OwnStepped}
 use Rattle.worker.specs.declared.Worker.{Worker}
 use Rattle.worker.specs.declared.Moved.{Moved}
-use Rattle.worker.specs.declared.Outcome.{Outcome}
 use Rattle.moves.specs.Moves.{step_of_body, InRange, OwnMoving, copies_left, OwnMoved}
 
 -- the step of a record in range that does not synchronise
@@ -47,7 +47,7 @@ own-ready v r i e place =
 pub kept : (w : ℕ) (copies : Copies) (marks : List Bool) (work : List ℕ) → copies ≡ copies_in marks work w → WorkerHolds w copies marks work marks work
 kept w copies marks work e = record { mine = sym e; others = λ v n. refl; size = refl; mark_size = refl }
 
-module _ (op : ℕ) (outcome : Outcome) (memory : List ℕ) (copies : Copies) (address : ℕ) where
+module _ (op : ℕ) (outcome : Option ℕ) (memory : List ℕ) (copies : Copies) (address : ℕ) where
   by-op : (b : Bool) → eqb op op_store ≡ b → copies_left op outcome memory copies address ≡ cond b (copies_stored outcome memory copies address) copies
   by-op b e = ap (λ (t : Bool). cond t (copies_stored outcome memory copies address) copies) e
 
@@ -84,7 +84,7 @@ own-copies memory op register number v e =
 
 -- the parts of an own step make the whole
 pub own-moved :
-    (v : Worker) (r : Record) (w : ℕ) (memory : List ℕ) (marks : List Bool) (work : List ℕ) (marks' : List Bool) (work' : List ℕ) (read : ℕ) (m : Moved)
+    (v : Worker) (r : Record) (w : ℕ) (memory : List ℕ) (marks : List Bool) (work : List ℕ) (marks' : List Bool) (work' : List ℕ) (read : ℕ) (m : Moved (Option ℕ))
     → length marks ≡ slot_count
     → (r.op ≡ op_load → read ≡ load_word memory (copies_in marks work w) r.number)
     → OwnStepped v r.op r.register r.number read m

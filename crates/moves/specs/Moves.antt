@@ -1,5 +1,5 @@
 -- The record of the step at a worker's place, and what an own step leaves.
-use Rattle.std.specs.Prelude.{ℕ, ◌+◌, ◌*◌, ◌≤◌, ◌<◌, Bool, true, false, cond, ◌≡◌, List, eqb, ltb, length, get_or}
+use Rattle.std.specs.Prelude.{ℕ, ◌+◌, ◌*◌, ◌≤◌, ◌<◌, Bool, true, false, cond, ◌≡◌, List, Option, eqb, ltb, length, get_or}
 use Rattle.protocol.specs.Ops.{op_set, op_load, op_store, op_add, op_subtract, op_skip_zero, op_skip_nonzero, op_wait, op_barrier, op_exit, op_start}
 use Rattle.protocol.specs.Format.{record_length, register_count, steps_limit, barrier_count, size_limit, address_limit, lock_limit, record_from, Step, step_of, synchronises}
 use Rattle.protocol.specs.Steps.{Fate, own_step}
@@ -9,7 +9,6 @@ use Rattle.plan.specs.declared.decode.Record.{Record}
 use Rattle.pages.specs.Copies.{copies_in, slot_count}
 use Rattle.worker.specs.Private.{viewed, own_of, copies_stored, OwnStepping}
 use Rattle.worker.specs.declared.Worker.{Worker}
-use Rattle.worker.specs.declared.Outcome.{Outcome}
 
 -- "Reaching the end of the steps acts as op 38."
 abbrev pub end_body : Record
@@ -48,7 +47,7 @@ abbrev pub read_by : ℕ → List ℕ → Copies → ℕ → ℕ
 read_by op memory copies address = cond (eqb op op_load) (load_word memory copies address) 0
 
 -- the copies after an own step: only a store changes them
-abbrev pub copies_left : ℕ → Outcome → List ℕ → Copies → ℕ → Copies
+abbrev pub copies_left : ℕ → Option ℕ → List ℕ → Copies → ℕ → Copies
 copies_left op outcome memory copies address = cond (eqb op op_store) (copies_stored outcome memory copies address) copies
 
 -- Worker w has made the definition's step, and every other worker has the copies that it had.

@@ -4,14 +4,22 @@
 ghost use Rattle.std.specs.Prelude.{◌≡◌, ◌*◌, ◌<◌, ◌≤◌, length};
 ghost use Rattle.protocol.specs.Ops.{op_load, op_store};
 ghost use Rattle.protocol.specs.Format.{workers_limit, record_length, records_limit, steps_limit, address_limit};
-ghost use Rattle.pages.specs.Copies.{Lent, copies_in, WorkerHolds, slot_count};
+ghost use Rattle.pages.specs.Copies.{Lent, copies_in, WorkerHolds};
 ghost use Rattle.moves.specs.Moves.{fetched_as, read_by, OwnMoving, copies_left, OwnMoved};
 
 use format::limits::RECORD_LENGTH;
 use format::ops;
 use pages::{SLOTS, load, store};
 use plan::decode::{Record, body};
-use worker::{Outcome, Worker};
+use worker::Worker;
+
+// What stands behind a worker's last step.
+const END: Record = Record {
+    worker: 0,
+    op: ops::EXIT,
+    register: 0,
+    number: 0,
+};
 
 // The record of the step at a worker's place, whose steps are the records from `first` to before `end`.
 pub fn fetch(file: &[u8], first: usize, end: usize, place: usize) -> Record
@@ -20,13 +28,9 @@ pub fn fetch(file: &[u8], first: usize, end: usize, place: usize) -> Record
 {
     let at = first + place;
     if at < end {
-        return body(file, RECORD_LENGTH * at);
-    }
-    Record {
-        worker: 0,
-        op: ops::EXIT,
-        register: 0,
-        number: 0,
+        body(file, RECORD_LENGTH * at)
+    } else {
+        END
     }
 }
 
@@ -44,13 +48,13 @@ fn loaded(r: Record, w: usize, memory: &[u8], work: &[u8], copied: &[bool; SLOTS
 // Stores what a store hands out; any other step leaves the copies alone.
 fn keep(
     r: Record,
-    outcome: Outcome,
+    outcome: Option<u16>,
     w: usize,
     memory: &[u8],
     work: &mut [u8],
     copied: &mut [bool; SLOTS],
 )
-    requires { Lent memory.now work.old × (length copied.old ≡ slot_count) × (w < workers_limit) × (r.op ≡ op_store → r.number ≤ address_limit) }
+    requires { Lent memory.now work.old × (w < workers_limit) × (r.op ≡ op_store → r.number ≤ address_limit) }
     ensures { WorkerHolds w
         (copies_left r.op outcome memory.now (copies_in copied.old work.old w) r.number)
         copied.old work.old copied.new work.new }
@@ -58,7 +62,7 @@ fn keep(
     if r.op != ops::STORE {
         return;
     }
-    let Outcome::Stores(value) = outcome else {
+    let Some(value) = outcome else {
         return;
     };
     store(memory, work, copied, w, r.number as usize, value);
@@ -73,12 +77,11 @@ pub fn own_move(
     work: &mut [u8],
     copied: &mut [bool; SLOTS],
 ) -> Worker
-    requires { Lent memory.now work.old × (length copied.old ≡ slot_count) × (w < workers_limit) × OwnMoving v r }
+    requires { Lent memory.now work.old × (w < workers_limit) × OwnMoving v r }
     ensures { OwnMoved v r w memory.now copied.old work.old copied.new work.new result }
 {
     let read = loaded(r, w, memory, work, copied);
     let moved = v.step(r.op, r.register, r.number, read);
-    let outcome = moved.outcome;
-    keep(r, outcome, w, memory, work, copied);
+    keep(r, moved.outcome, w, memory, work, copied);
     moved.worker
 }

@@ -9,7 +9,7 @@ returns-then-at-end c =
     let a = c.args in
     c.body.ensures ∙ sym (fetched-step a.file.now a.first a.end a.place (omega arith))
 
-pub returns : goal.returns
-returns c =
+pub returns-else-at-end : goal.returns-else-at-end
+returns-else-at-end c =
     let a = c.args in
     sym (fetched-end a.file.now a.first a.end a.place (omega arith))

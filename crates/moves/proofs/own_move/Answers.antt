@@ -9,4 +9,4 @@ pub returns : goal.returns
 returns c =
     let a = c.args in
     own-moved a.v a.r a.w a.memory.now a.copied.now a.work.now c.keep.new.copied c.keep.new.work
-    c.loaded-read.result c.step-moved.result c.requires.1 (λ e. c.loaded-read.ensures ∙ rw (eq-eqb a.r.op op_load e)) c.step-moved.ensures c.keep.ensures
+    c.loaded-read.result c.step-moved.result c.told-copied (λ e. c.loaded-read.ensures ∙ rw (eq-eqb a.r.op op_load e)) c.step-moved.ensures c.keep.ensures
