@@ -42,6 +42,7 @@ fn write_block(memory: &mut [u8], work: &[u8], first: usize, at: usize)
 }
 
 // Commits a block. The sum rises by the block's words as they stand in shared memory now, and falls by those that stood there before.
+// Memory and sum are no struct with a ghost field that says they agree: it would have to hold between the write and the new sum.
 fn commit_block(memory: &mut [u8], work: &[u8], first: usize, at: usize, sum: u32) -> u32
     requires { BlockLent first at work.now memory.old × Summed memory.old sum }
     ensures { BytesWritten first at block_size work.now memory.old memory.new × Summed memory.new result }

@@ -1,5 +1,6 @@
 // Page copies with their twins, in bytes that the caller lends. `work` holds, for each worker and each page, a working copy and
 // then its twin. A slot is a worker's place for one page, Page::COUNT × worker + page, and `copied` marks the slots in use.
+// The three stay parameters: lent in one struct, they took 6 % more instructions and 7 % more time in a trial of the loop over own steps.
 #![tactic(auto)]
 
 ghost use Rattle.std.specs.Prelude.{◌≡◌, List, ℕ, ◌+◌, ◌<◌, ◌≤◌, length, drop};
@@ -28,7 +29,7 @@ pub const MEMORY_LENGTH: usize = Page::COUNT * Page::SIZE;
 
 pub const WORK_LENGTH: usize = SLOTS * Page::PAIR;
 
-// Copies a page's worth of bytes. By copy_from_slice the loop over own steps, which this stands in, takes 2.4 % more instructions.
+// Copies a page's worth of bytes. With copy_from_slice "private arithmetic", the loop that this is put into, takes 2.4 % more instructions.
 fn copy_page(from: &[u8], start: usize, into: &mut [u8], at: usize)
     requires { (start + page_size ≤ length from.now) × (at + page_size ≤ length into.old) }
     ensures { into.new ≡ paste into.old at (drop start from.now) page_size }
