@@ -1,10 +1,7 @@
 -- A register's digit, taken out and put in by shifts. Assumes nothing.
-use Rattle.std.proofs.Common.{◌≡◌, ℕ, ◌+◌, ◌-◌, ◌*◌, ◌/◌, ◌%◌, ◌^◌, ◌<◌, ◌≤◌, [], ◌∷◌, get_or, set, refl, arith}
+use Rattle.std.proofs.Common.{◌≡◌, ℕ, ◌+◌, ◌-◌, ◌*◌, ◌%◌, ◌^◌, ◌<◌, ◌≤◌, [], ◌∷◌, set, arith}
 use Rattle.protocol.proofs.Each.{each}
-use Rattle.worker.specs.Digits.{digit, digits}
-
-pub digit_at : (n r : ℕ) → r < 4 → digit n r ≡ get_or (digits n) r 0
-digit_at n r l = each (λ k. digit n k ≡ get_or (digits n) k 0) 0 3 refl refl refl refl r (omega arith) (omega arith)
+use Rattle.worker.specs.Digits.{digit, digits, number_back}
 
 -- a digit in its place, as a shift makes it
 abbrev pub shifted : ℕ → ℕ → ℕ
@@ -40,20 +37,8 @@ module _ (a b c d : ℕ) (la : a < 65536) (lb : b < 65536) (lc : c < 65536) (ld 
   digits_sum : {n : ℕ} → n ≡ sum a b c d → digits n ≡ a ∷ b ∷ c ∷ d ∷ []
   digits_sum e = rw e (rw (digit-0, digit-1, digit-2, digit-3))
 
-chained : {n q₁ q₂ : ℕ} (a b c d : ℕ) → n ≡ a + 65536 * q₁ → q₁ ≡ b + 65536 * q₂ → q₂ ≡ c + 65536 * d → n ≡ sum a b c d
-chained a b c d e₁ e₂ e₃ = omega arith
-
 sum-digits : (n : ℕ) → n < 18446744073709551616 → n ≡ sum (digit n 0) (digit n 1) (digit n 2) (digit n 3)
-sum-digits n small = chained (digit n 0) (digit n 1) (digit n 2) (digit n 3) lowest next last
-  where
-    lowest : n ≡ digit n 0 + 65536 * (n / 65536)
-    lowest = omega arith
-
-    next : n / 65536 ≡ digit n 1 + 65536 * (n / 4294967296)
-    next = omega arith
-
-    last : n / 4294967296 ≡ digit n 2 + 65536 * digit n 3
-    last = omega arith
+sum-digits n small = omega (arith, number_back n small)
 
 -- the number with one digit less and another one more
 module _ (n a b c d v : ℕ) (e : n ≡ sum a b c d) (la : a < 65536) (lb : b < 65536) (lc : c < 65536) (ld : d < 65536) (lv : v < 65536) where

@@ -10,8 +10,7 @@ use Rattle.protocol.specs.Steps as steps
 use Rattle.protocol.specs.Steps.{Fate, own_step, setting, place_as}
 use Rattle.protocol.proofs.Each.{each}
 use Rattle.worker.specs.declared.Worker.{Worker}
-use Rattle.worker.specs.declared.Moved.{Moved}
-use Rattle.worker.specs.Private.{registers_of, viewed, held_as, Replaced, own_of, result_of, skip_of, OwnStepping, OwnStepped}
+use Rattle.worker.specs.Private.{registers_of, viewed, Replaced, own_of, result_of, skip_of, OwnStepping, OwnStepped}
 
 -- the step of a record of the plan file
 pub step-own : (r : Record) → 16 ≤ r.op → r.op ≤ 22 → step_of r ≡ own (own_of r.op r.register r.number)
@@ -110,9 +109,3 @@ module _ (v : Worker) (op register number loaded : ℕ) (ready : OwnStepping v o
             rw (w.place, w.registers, e, holds) (set-step v register number memory locks arrived copies fate op loaded ready.least h n read);
         held = w.held;
       }
-
--- a worker that is one place on, with the number of its locks, and the step's outcome
-pub one_on : (v : Worker) (held outcome : ℕ) {place : ℕ} → place ≡ v.place + 1
-    → ◌≡◌ {A = Moved ℕ} (record { worker = record { place = place; held = held; registers = v.registers }; outcome = outcome })
-    (record { worker = held_as v held; outcome = outcome })
-one_on v held outcome e = rw e
