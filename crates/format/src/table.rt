@@ -1,13 +1,13 @@
 // The operand ranges: one row per op.
-ghost use Rattle.std.specs.Prelude.{◌≡◌};
+ghost use Rattle.std.specs.Prelude.{◌≡◌, option_copied};
 ghost use Rattle.protocol.specs.Format.{table};
-ghost use Rattle.format.specs.Table.{limits, place_in};
+ghost use Rattle.format.specs.Table.{limits, limits_for, place_in};
 
 use crate::{limits, ops};
 
 // An op, the largest register, and the smallest and the largest number. All are of one width: with padding between them the rows are made part
 // by part.
-#[derive(Clone, Copy)]
+#[derive(Clone, Copy, PartialEq, Eq)]
 pub struct Row {
     pub op: u16,
     pub registers: u16,
@@ -22,7 +22,7 @@ const FIRST_SYNC: usize = 7;
 
 const LAST_REGISTER: u16 = limits::REGISTER_COUNT - 1;
 
-const ROWS: [Row; ROW_COUNT] = [
+static ROWS: [Row; ROW_COUNT] = [
     Row {
         op: ops::SET as u16,
         registers: LAST_REGISTER,
@@ -115,20 +115,29 @@ const ROWS: [Row; ROW_COUNT] = [
     },
 ];
 
-// The rows, for a caller to make once: a constant that is indexed in a loop is made each time.
+// The rows, in the order of the definitions' table.
 pub fn rows() -> [Row; ROW_COUNT]
     ensures { result ≡ limits }
 {
     ROWS
 }
 
-// The place of an op's row; where the op has none, how many rows there are.
-pub fn place(op: u8) -> usize
+// The place of an op's row, if the op has one.
+pub fn place(op: u8) -> Option<usize>
     ensures { result ≡ place_in table op }
 {
     match op {
-        ops::SET..=ops::SKIP_NONZERO => (op - ops::SET) as usize,
-        ops::LOCK..=ops::START => (op - ops::LOCK) as usize + FIRST_SYNC,
-        _ => ROW_COUNT,
+        ops::SET..=ops::SKIP_NONZERO => Some((op - ops::SET) as usize),
+        ops::LOCK..=ops::START => Some((op - ops::LOCK) as usize + FIRST_SYNC),
+        _ => None,
     }
+}
+
+// An op's row, if the op has one. Called, it would double the instructions of the check.
+#[inline(always)]
+pub fn row_of(op: u8) -> Option<&'static Row>
+    ensures { option_copied result ≡ limits_for op }
+{
+    let at = place(op)?;
+    Some(&ROWS[at])
 }

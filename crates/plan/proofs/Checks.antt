@@ -5,22 +5,23 @@ use mathlib.Core.Path.{◌≡◌, sym, ap, ◌∙◌, subst⁻¹}
 use mathlib.Core.List.{List, []}
 use native.Mathlib.Omega.{arith}
 use lib.ListN.{length}
-use Rattle.protocol.specs.Format.{record_length, records_from, record_count, records, sleepers_in, workers_limit, barrier_count}
+use Rattle.protocol.specs.Format.{record_length, records_from, record_count, records, workers_limit}
 use Rattle.protocol.specs.Refusals as protocol
 use Rattle.protocol.specs.Refusals.{refuse_if, holds, ruled, wrong_length, wrong_plan, length_rule, plan_rule, record_rule, check_records}
-use Rattle.plan.specs.Answer.{record_of, decoded_of, verdict_of}
-use Rattle.plan.specs.Reading.{file_record, before, verdict_from, BarriersRead}
+use Rattle.plan.specs.Answer.{record_of, decoded_of, refused_as}
+use Rattle.plan.specs.Reading.{file_record, verdict_from, RulesHold, BarriersRead}
 use Rattle.plan.specs.Sleeping.{FirstFates, SleepersComing, SleepersRead}
 use Rattle.plan.specs.Stepping.{StepsSoFar, RecordsRead}
 use Rattle.plan.specs.Skipping.{SkipChecking}
 use Rattle.plan.specs.Checking.{LaidOut, CheckedAs}
 use Rattle.plan.specs.declared.barriers.Barriers.{Barriers}
-use Rattle.plan.specs.declared.sleepers.Sleepers.{Sleepers}
-use Rattle.plan.specs.declared.answer.Refusal.{Refusal}
-use Rattle.plan.specs.declared.answer.Verdict.TheVariants.{Refused}
-use Rattle.plan.specs.declared.check.Checked.{Checked}
-use Rattle.plan.specs.declared.decode.Decoded.TheVariants.{Read}
-use Rattle.plan.proofs.Readings.{Body, verdict-step, workers-same, told, not-refused}
+use Rattle.plan.specs.declared.answer.Refused.{Refused}
+use Rattle.std.specs.Prelude.{Some, Result, Err, IsErrAnd}
+use Rattle.plan.specs.declared.check.Layout.{Layout}
+use Rattle.plan.proofs.Readings.{Body, verdict-step, workers-same, told, rules-first}
+use Rattle.protocol.proofs.Accepted.{length-right}
+use Rattle.protocol.proofs.Taken.{plan-record}
+use Rattle.std.proofs.lemmas.Result.{err_from_is_err_and}
 
 -- the rule of the length, then that of the plan record, then the records behind it
 pub by_length : (file : List ℕ) {t : Bool} → wrong_length (length file) ≡ t
@@ -39,64 +40,95 @@ by_first file fine some e =
     all_left = omega arith
 
 -- the rule of the plan record, by the code's test
-pub plan-rule : (file : List ℕ) {b : Body} {t : Bool} → decoded_of (file_record file 0) ≡ Read b → wrong_plan (record_of b) ≡ t
+pub plan-rule : (file : List ℕ) {b : Body} {t : Bool} → decoded_of (file_record file 0) ≡ Some b → wrong_plan (record_of b) ≡ t
     → record_rule [] (file_record file 0) ≡ refuse_if t protocol.bad_plan holds
 unfolding record_rule plan_rule
 plan-rule file e p = ap (λ r. record_rule [] r) (told (file_record file 0) e) ∙ ap (λ (t : Bool). refuse_if t protocol.bad_plan holds) p
 
--- from the barrier records to the sleep records
-pub sleepers-coming : {file : List ℕ} {count n : ℕ} {r : Barriers} → BarriersRead file count r → verdict_of r.verdict ≡ protocol.accepted
-    → (file_record file 0).worker ≡ n → n ≤ workers_limit → SleepersComing file count n r.next
-sleepers-coming {file} {r = r} b ok w m =
-    record {
-      least = b.least;
-      most = b.most;
-      workers = workers-same file r.next b.least ∙ w;
-      few = m;
-      rules = b.head.rules;
-      no_step = b.head.no_step;
-      no_sleeper = b.no_sleeper;
-      no_barrier = b.no_barrier ok;
-    }
+-- a file of a right length, whose first record is a plan record within its limits
+pub record FirstTaken (file : List ℕ) (first : Body) : Type 0 where
+  pub fine : wrong_length (length file) ≡ false
+  pub decoded : decoded_of (file_record file 0) ≡ Some first
+  pub right : wrong_plan (record_of first) ≡ false
 
--- to the steps
-pub steps-so-far : {file : List ℕ} {count n : ℕ} {r : Barriers} {d : Sleepers} {fates : List ℕ} → BarriersRead file count r → SleepersComing file count n r.next
-    → SleepersRead file count r.next d fates → verdict_of d.verdict ≡ protocol.accepted → StepsSoFar file count n r.sizes d.next
-steps-so-far {file} {r = r} {d = d} b c s ok =
-    let h = s.head ok in
-    let some : 1 ≤ d.next = omega (arith, c.least, s.least) in
-    record {
-      least = some;
-      most = s.most;
-      workers = workers-same file d.next some ∙ (sym (workers-same file r.next c.least) ∙ c.workers);
-      few = c.few;
-      rules = h.rules;
-      no_step = h.no_step;
-      size = b.head.size;
-      sizes_right = λ k l. b.head.right k l ∙ sym (h.sizes k);
-      no_barrier = h.no_barrier;
-      no_sleep = h.no_sleep;
-    }
+module _ {file : List ℕ} {first : Body} (taken : FirstTaken file first) where
+  pub some_records : 1 ≤ length file / record_length
+  unfolding record_count
+  some_records = (length-right file taken.fine).some
 
--- to the skips, and to the end
-pub skip-checking : {file : List ℕ} {count : ℕ} {sizes : List ℕ} {start : ℕ} {firsts : List ℕ} → RecordsRead file count sizes start firsts → 1 ≤ count → SkipChecking file count firsts
-skip-checking r some = record { least = some; rules = r.rules; right = r.firsts_right }
+  rule : record_rule [] (file_record file 0) ≡ holds
+  rule = plan-rule file taken.decoded taken.right
 
-pub laid_out : {file sizes firsts fates : List ℕ} {n start : ℕ} → RecordsRead file (length file / record_length) sizes start firsts → 1 ≤ length file / record_length
-    → n ≡ (file_record file 0).worker → length sizes ≡ barrier_count → length firsts ≡ workers_limit + 1 → FirstFates (sleepers_in (before file start)) fates
-    → LaidOut file (record { workers = n; sizes = sizes; firsts = firsts; fates = fates })
-unfolding records record_count
-laid_out {file} {fates = fates} s some w eight nine first =
-    record {
-      workers = w ∙ sym (workers-same file (length file / record_length) some);
-      eight = eight;
-      sizes = s.sizes_right;
-      nine = nine;
-      firsts = s.firsts_right;
-      fates = subst⁻¹ (λ (ws : List ℕ). FirstFates ws fates) s.sleepers first;
-    }
+  pub rules-begun : RulesHold file 1
+  rules-begun = rules-first file rule
 
--- a refusal is the verdict, and leaves no layout to speak of
-pub turned_down : {file : List ℕ} {r : Checked} {f : Refusal} {i : ℕ} → r.verdict ≡ Refused f i
-    → protocol.check file ≡ verdict_of (Refused f i) → CheckedAs file r
-turned_down e bad = record { verdict = ap verdict_of e ∙ sym bad; layout = λ q. not-refused _ _ (ap verdict_of (sym e) ∙ q) }
+  pub behind-first : protocol.check file ≡ verdict_from file (length file / record_length) 1
+  behind-first = by_first file taken.fine some_records rule
+
+  -- the worker byte is the number of workers
+  pub workers-told : (file_record file 0).worker ≡ first.worker
+  workers-told = ap (λ r. r.worker) (told (file_record file 0) taken.decoded)
+
+  -- up to the sleep records, the steps, the skips and the end
+  pub behind-barriers : {r : Barriers} → BarriersRead file (length file / record_length) r → protocol.check file ≡ verdict_from file (length file / record_length) r.next
+  behind-barriers b = behind-first ∙ sym b.verdict
+
+  pub sleepers-coming : {r : Barriers} → BarriersRead file (length file / record_length) r → SleepersComing file (length file / record_length) first.worker r.next
+  sleepers-coming {r} b =
+      record {
+        least = b.least;
+        most = b.most;
+        workers = workers-same file r.next b.least ∙ workers-told;
+        few = (plan-record (record_of first) taken.right).most;
+        rules = b.head.rules;
+        no_step = b.head.no_step;
+        no_sleeper = b.no_sleeper;
+        no_barrier = b.no_barrier;
+      }
+
+  module _ {r : Barriers} (b : BarriersRead file (length file / record_length) r) {next : ℕ} {fates : List ℕ} (s : SleepersRead file (length file / record_length) r.next next fates) where
+    pub behind-sleepers : protocol.check file ≡ verdict_from file (length file / record_length) next
+    behind-sleepers = behind-barriers b ∙ sym s.verdict
+
+    some : 1 ≤ next
+    some = omega (arith, b.least, s.least)
+
+    pub steps-so-far : StepsSoFar file (length file / record_length) first.worker r.sizes next
+    steps-so-far =
+        let h = s.head in
+        record {
+          least = some;
+          most = s.most;
+          workers = workers-same file next some ∙ workers-told;
+          few = (plan-record (record_of first) taken.right).most;
+          rules = h.rules;
+          no_step = h.no_step;
+          size = b.head.size;
+          sizes_right = λ k l. b.head.right k l ∙ sym (h.sizes k);
+          no_barrier = h.no_barrier;
+          no_sleep = h.no_sleep;
+        }
+
+    module _ {firsts : List ℕ} (read : RecordsRead file (length file / record_length) r.sizes next firsts) where
+      pub skip-checking : SkipChecking file (length file / record_length) firsts
+      skip-checking = record { least = some_records; rules = read.rules; right = read.firsts_right }
+
+      pub laid_out : length firsts ≡ workers_limit + 1 → LaidOut file (record { workers = first.worker; sizes = r.sizes; firsts = firsts; fates = fates })
+      unfolding records record_count
+      laid_out nine =
+          record {
+            workers = sym workers-told ∙ sym (workers-same file (length file / record_length) some_records);
+            eight = b.head.size;
+            sizes = read.sizes_right;
+            nine = nine;
+            firsts = read.firsts_right;
+            fates = subst⁻¹ (λ (ws : List ℕ). FirstFates ws fates) read.sleepers s.first;
+          }
+
+-- a refusal is the verdict, and leaves no layout
+pub turned_down : {file : List ℕ} {e : Refused} → protocol.check file ≡ refused_as e → CheckedAs file (Err e)
+turned_down bad = record { verdict = sym bad; layout = tt }
+
+-- at the exit of a `?`
+pub turned_down_by : {file : List ℕ} {r : Result Layout Refused} (e : Refused) → IsErrAnd r (λ y. y ≡ e) → protocol.check file ≡ refused_as e → CheckedAs file r
+turned_down_by {r = r} e out bad = let p = err_from_is_err_and r out in rw (p.1, p.2) (turned_down bad)

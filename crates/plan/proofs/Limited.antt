@@ -2,11 +2,10 @@
 use Prim.Native.Nat.{ℕ, ◌<◌}
 use mathlib.Core.Bool.{true, false, true≢false}
 use mathlib.Core.Path.{◌≡◌, refl, sym, ap, ◌∙◌}
-use mathlib.Core.List.{List}
 use mathlib.Core.Option.{Option, none, some}
+use Rattle.std.specs.Prelude.{Some, None}
 use native.Mathlib.Omega.{arith}
 use lib.Dec.{ltb, eqb}
-use lib.ListN.{get_or}
 use borrow.Author.Tests.{ne_eqb, ltb-false}
 use Rattle.protocol.specs.Ops.{op_plan_record, op_barrier_record, op_sleep_record, op_barrier}
 use Rattle.protocol.specs.Format as format
@@ -14,24 +13,23 @@ use Rattle.protocol.specs.Format.{table, row_of, row_in, known}
 use Rattle.protocol.specs.Refusals.{operands_outside}
 use Rattle.protocol.proofs.Bools.{or_right}
 use Rattle.protocol.proofs.Covered.{row-known}
-use Rattle.format.specs.Table.{limits_of, limits, limits_in, limits_for, place_in}
+use Rattle.format.specs.Table.{limits_of, limits_in, limits_for}
 use Rattle.format.specs.declared.table.Row.{Row}
-use Rattle.format.proofs.Rows.{place_inside, row_at}
 use Rattle.plan.specs.Stepping.{outside_of}
 
-pub unknown : (o : ℕ) → limits_for o ≡ none → known o ≡ false
+pub unknown : (o : ℕ) → limits_for o ≡ None → known o ≡ false
 unfolding known
 unknown o e = go (row_of o) e
   where
-    go : (x : Option format.Row) → limits_in x ≡ none → elim x [ none ↦ false | some y ↦ true ] ≡ false
+    go : (x : Option format.Row) → limits_in x ≡ None → elim x [ none ↦ false | some y ↦ true ] ≡ false
     go none q = refl
     go (some y) q = let z : ◌≡◌ {A = ℕ} 0 1 = cc in absurd (omega arith)
 
-module _ (o : ℕ) (row : Row) (e : limits_for o ≡ some row) where
+module _ (o : ℕ) (row : Row) (e : limits_for o ≡ Some row) where
   table-row : (y : format.Row) × (row_of o ≡ some y) × (limits_of y ≡ row)
   table-row = go (row_of o) refl e
     where
-      go : (x : Option format.Row) → row_of o ≡ x → limits_in x ≡ some row → (y : format.Row) × (row_of o ≡ some y) × (limits_of y ≡ row)
+      go : (x : Option format.Row) → row_of o ≡ x → limits_in x ≡ Some row → (y : format.Row) × (row_of o ≡ some y) × (limits_of y ≡ row)
       go none p q = let z : ◌≡◌ {A = ℕ} 0 1 = cc in absurd (omega arith)
       go (some y) p q = (y, p, cc)
 
@@ -42,16 +40,6 @@ module _ (o : ℕ) (row : Row) (e : limits_for o ≡ some row) where
   unfolding operands_outside
   outside-row register number =
       ap (λ (x : Option format.Row). operands_outside x register number) table-row.1 ∙ ap (λ (x : Row). outside_of x register number) table-row.2
-
--- the row that the code finds at an op's place
-module _ (o k : ℕ) (rows : List Row) (same : rows ≡ limits) (place : k ≡ place_in table o) (some-row : k ≡ 15 → ⊥) where
-  pub place-below : k < 15
-  place-below = omega (arith, place_inside o, place, some-row)
-
-  pub row-found : (d : Row) → limits_for o ≡ some (get_or rows k d)
-  row-found d =
-      row_at o d (omega (arith, place-below, place))
-      ∙ (ap (λ (j : ℕ). some (get_or limits j d)) (sym place) ∙ ap (λ (xs : List Row). some (get_or xs k d)) (sym same))
 
 -- the ops of the records that are no steps are not known
 module _ (o : ℕ) (k : known o ≡ true) where

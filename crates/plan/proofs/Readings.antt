@@ -23,7 +23,7 @@ use Rattle.protocol.proofs.Taken.{rule-parts, plan-record, barrier-record, barri
 use Rattle.protocol.proofs.Prefix.{Read as PrefixRead, read_first, read_more}
 use Rattle.plan.specs.Answer.{body_of, record_of, decoded_of}
 use Rattle.plan.specs.declared.decode.Record as decode
-use Rattle.plan.specs.declared.decode.Decoded.TheVariants.{Read, Unmarked}
+use Rattle.std.specs.Prelude.{Some, None}
 use Rattle.plan.specs.Reading.{file_record, before, verdict_from, RulesHold, refuses_barrier, HeadSoFar}
 
 -- a record as the code has it
@@ -71,24 +71,24 @@ verdict-step file count i {rule} h e =
 
 -- ---- what the decoder told of a record
 
-pub told : (r : Record) {b : Body} → decoded_of r ≡ Read b → r ≡ record_of b
+pub told : (r : Record) {b : Body} → decoded_of r ≡ Some b → r ≡ record_of b
 told r {b} e = go (eqb r.mark plan_mark) refl e
   where
-    go : (t : Bool) → eqb r.mark plan_mark ≡ t → cond t (Read (body_of r)) Unmarked ≡ Read b → r ≡ record_of b
+    go : (t : Bool) → eqb r.mark plan_mark ≡ t → cond t (Some (body_of r)) None ≡ Some b → r ≡ record_of b
     go true q h =
         let same : body_of r ≡ b = cc in
         ap (λ (m : ℕ). record { mark = m; worker = r.worker; op = r.op; register = r.register; number = r.number }) (eqb-true _ _ q)
         ∙ ap record_of same
     go false q h = let z : ◌≡◌ {A = ℕ} 0 1 = cc in absurd (omega arith)
 
-told-unmarked : (r : Record) → decoded_of r ≡ Unmarked → eqb r.mark plan_mark ≡ false
+told-unmarked : (r : Record) → decoded_of r ≡ None → eqb r.mark plan_mark ≡ false
 told-unmarked r e = go (eqb r.mark plan_mark) e
   where
-    go : (t : Bool) → cond t (Read (body_of r)) Unmarked ≡ Unmarked → t ≡ false
+    go : (t : Bool) → cond t (Some (body_of r)) None ≡ None → t ≡ false
     go true q = let z : ◌≡◌ {A = ℕ} 0 1 = cc in absurd (omega arith)
     go false q = refl
 
-pub no-barrier-record : (r : Record) {b : Body} → decoded_of r ≡ Read b → (b.op ≡ op_barrier_record → ⊥) → is_barrier r ≡ false
+pub no-barrier-record : (r : Record) {b : Body} → decoded_of r ≡ Some b → (b.op ≡ op_barrier_record → ⊥) → is_barrier r ≡ false
 no-barrier-record r e n = ap is_barrier (told r e) ∙ ne_eqb _ _ n
 
 pub not-refused : {A : Type 0} (f : protocol.Refusal) (i : ℕ) → protocol.refused f i ≡ protocol.accepted → A
@@ -96,12 +96,12 @@ not-refused f i e = let z : ◌≡◌ {A = ℕ} 0 1 = cc in absurd (omega arith)
 
 -- ---- the rule of a record, by its mark
 
-pub unmarked-rule : (rs : List Record) (r : Record) → decoded_of r ≡ Unmarked → record_rule rs r ≡ some protocol.bad_mark
+pub unmarked-rule : (rs : List Record) (r : Record) → decoded_of r ≡ None → record_rule rs r ≡ some protocol.bad_mark
 unfolding record_rule
 unmarked-rule [] r e = ap (λ (t : Bool). refuse_if (not t) protocol.bad_mark (plan_rule r)) (told-unmarked r e)
 unmarked-rule (q ∷ qs) r e = ap (λ (t : Bool). refuse_if (not t) protocol.bad_mark (later_rule (q ∷ qs) r)) (told-unmarked r e)
 
-pub marked-rule : (file : List ℕ) (i : ℕ) {b : Body} → 1 ≤ i → decoded_of (file_record file i) ≡ Read b
+pub marked-rule : (file : List ℕ) (i : ℕ) {b : Body} → 1 ≤ i → decoded_of (file_record file i) ≡ Some b
     → record_rule (before file i) (file_record file i) ≡ later_rule (before file i) (record_of b)
 unfolding record_rule records_from
 marked-rule file zero h e = absurd (omega arith)
@@ -188,7 +188,7 @@ barriers-first file rules =
 
 -- one barrier record more
 module _ {file : List ℕ} {i low : ℕ} {sizes : List ℕ} {b : Body} (least : 1 ≤ i) (at : BarriersAt file i low sizes)
-    (decoded : decoded_of (file_record file i) ≡ Read b) (op : b.op ≡ op_barrier_record) where
+    (decoded : decoded_of (file_record file i) ≡ Some b) (op : b.op ≡ op_barrier_record) where
   -- the code's test is the rule
   pub barrier-rule : record_rule (before file i) (file_record file i) ≡ refuse_if (refuses_barrier low b) protocol.bad_barrier holds
   unfolding later_rule barrier_record_rule

@@ -19,7 +19,7 @@ use Rattle.protocol.proofs.Records.{one as one_of_lem, any_of-one, any-reaches, 
 use Rattle.protocol.proofs.Taken.{sleep-no-step, sleep-record}
 use Rattle.format.specs.Fates.{code_going, code_asleep}
 use Rattle.plan.specs.Answer.{record_of, decoded_of}
-use Rattle.plan.specs.declared.decode.Decoded.TheVariants.{Read}
+use Rattle.std.specs.Prelude.{Some}
 use Rattle.plan.specs.Reading.{file_record, before, RulesHold}
 use Rattle.plan.specs.Sleeping.{refuses_sleep, first_code, FirstFates, SleepersComing, HeadRead}
 use Rattle.plan.proofs.Readings.{Body, before_more, told, marked-rule, rules-more, workers-same}
@@ -65,7 +65,7 @@ member-more w v (u ∷ us) = ap (λ (b : Bool). eqb w u || b) (member-more w v u
 
 -- one sleep record more
 module _ {file : List ℕ} {count n start i low : ℕ} {fates : List ℕ} {b : Body} (c : SleepersComing file count n start)
-    (at : SleepersAt file count n start i low fates) (decoded : decoded_of (file_record file i) ≡ Read b) (op : b.op ≡ op_sleep_record) where
+    (at : SleepersAt file count n start i low fates) (decoded : decoded_of (file_record file i) ≡ Some b) (op : b.op ≡ op_sleep_record) where
   abbrev rs : List Record
   rs = before file i
 
@@ -138,7 +138,7 @@ module _ {file : List ℕ} {count n start i low : ℕ} {fates : List ℕ} {b : B
         }
 
 -- the end of them
-pub no-sleep-record : (r : Record) {b : Body} → decoded_of r ≡ Read b → (b.op ≡ op_sleep_record → ⊥) → is_sleep r ≡ false
+pub no-sleep-record : (r : Record) {b : Body} → decoded_of r ≡ Some b → (b.op ≡ op_sleep_record → ⊥) → is_sleep r ≡ false
 no-sleep-record r e n = ap is_sleep (told r e) ∙ ne_eqb _ _ n
 
 pub head_read : {file : List ℕ} {count n start i low : ℕ} {fates : List ℕ} → SleepersComing file count n start → SleepersAt file count n start i low fates

@@ -4,7 +4,7 @@ use mathlib.Core.Bool.{Bool, true, false, cond, not, ◌&&◌, ◌||◌, true≢
 use mathlib.Core.Path.{◌≡◌, refl, sym, ap, ◌∙◌, subst, subst⁻¹}
 use mathlib.Core.Logic.{⊎_elim}
 use mathlib.Core.List.{List, ◌++◌}
-use mathlib.Core.Option.{none, some}
+use mathlib.Core.Option.{some}
 use native.Mathlib.Omega.{arith}
 use native.Mathlib.Numerals.{add-one}
 use native.Mathlib.Decide.{ℕ_discrete, dec_lt}
@@ -21,12 +21,17 @@ use Rattle.protocol.proofs.Records.{one, opened_in, names, any-other, picks, any
 use Rattle.protocol.proofs.Taken.{StepTaken, later-taken, rule-parts}
 use Rattle.protocol.proofs.Prefix.{first_step}
 use Rattle.format.specs.Table.{limits_for}
-use Rattle.plan.specs.Answer.{record_of, decoded_of}
+use Rattle.plan.specs.Answer.{refusal_of, refused_by, refused_as, record_of, decoded_of}
+use Rattle.plan.specs.declared.answer.Refusal.{Refusal}
+use Rattle.plan.specs.declared.answer.Refused.{Refused}
 use Rattle.plan.specs.Reading.{file_record, before, verdict_from, RulesHold}
-use Rattle.plan.specs.Stepping.{refuses_worker, read_steps, no_step, kept_step_rule, kept_rule, WorkersOpened, PlainStep, StepsSoFar, RecordsRead}
-use Rattle.plan.specs.declared.decode.Decoded.TheVariants as decoded
+use Rattle.plan.specs.Stepping.{refuses_worker, read_steps, no_step, kept_step_rule, kept_rule, WorkersOpened, PlainStep, StepsSoFar, RecordsRead, StepsRead}
+use Rattle.std.specs.Prelude.{Some, None, Err, replicate}
+use Rattle.std.proofs.Common.{rules}
+use Rattle.std.proofs.lemmas.List.{places}
+use borrow.Rule.Slice.PartMut.{put_mid, mid_of}
 use Rattle.plan.proofs.Limited.{unknown, not-plan-record, not-barrier-record, not-sleep-record, barrier-number}
-use Rattle.plan.proofs.Readings.{Body, before_more, length_before, told, verdict-step, marked-rule, rules-more, read, workers-same}
+use Rattle.plan.proofs.Readings.{Body, before_more, length_before, told, verdict-step, marked-rule, rules-more, read, workers-same, not-refused}
 
 -- what the reading of steps has kept of the records before record i
 pub record StepsKept (file : List ℕ) (i n : ℕ) (sizes sleepers : List ℕ) (opened : ℕ) (firsts : List ℕ) : Type 0 where
@@ -39,6 +44,20 @@ pub record StepsKept (file : List ℕ) (i n : ℕ) (sizes sleepers : List ℕ) (
   pub right : (w : ℕ) → w < opened → get_or firsts w 0 ≡ first_in (before file i) w
   pub sizes_right : (b : ℕ) → b < barrier_count → get_or sizes b 0 ≡ size_in (before file i) b
   pub slept : sleepers_in (before file i) ≡ sleepers
+
+-- a fill of the places from `opened` up to `ends`
+pub filled : (old part : List ℕ) (opened ends i : ℕ) → opened ≤ ends → ends ≤ length old → part ≡ replicate (length (mid_of opened (ends - opened) old)) i
+    → WorkersOpened old opened ends i (put_mid opened (ends - opened) old part)
+filled old part opened ends i l m e = rw e (record {
+  size = search (rules, places);
+  inside = λ k a b c. search (rules, places);
+  below = λ k a. search (rules, places);
+})
+
+-- a record that is refused ends the reading
+pub refused-here : {file : List ℕ} {count : ℕ} {sizes : List ℕ} {start : ℕ} {firsts : List ℕ} {f : Refusal} {i : ℕ} {e : Refused} → length firsts ≡ workers_limit + 1
+    → e ≡ refused_by f i → protocol.refused (refusal_of f) i ≡ verdict_from file count start → StepsRead file count sizes start (Err e) firsts
+refused-here size same why = record { verdict = ap refused_as same ∙ why; size = size; read = λ q. not-refused _ _ q }
 
 -- a worker that is taken is below n, and at most one behind those opened
 pub good-worker : (n opened w : ℕ) → refuses_worker n opened w ≡ false → (w < n) × (opened ≤ w + 1)
@@ -67,6 +86,18 @@ module _ {file : List ℕ} {i n : ℕ} {sizes sleepers : List ℕ} {opened : ℕ
         | yes b ↦ let e = k.right w b in rw (lt-ltb w opened b) (omega arith)
         | no b ↦ let first = first-unopened rs w (omega arith) in rw (le-ltb w opened (omega arith)) (omega arith)
       ]
+
+  -- the worker opened last has at most as many steps as it may
+  pub room : (w : ℕ) → opened ≡ w + 1 → i ≤ get_or firsts w 0 + steps_limit
+  room w e =
+      let o = k.opens in
+      let l = length_before file i in
+      let r = read file i k.least k.rules in
+      let t = r.together w in
+      let few = r.few w in
+      let first = k.right w (omega arith) in
+      let last = first-unopened rs (suc w) (omega arith) in
+      omega arith
 
   unsized : (b : Body) → wrong_operand n (record_of b) ≡ false
       → lacks_size rs (record_of b) ≡ eqb b.op op_barrier && eqb (get_or sizes b.number 0) 0
@@ -141,7 +172,18 @@ pub record OneStep (file : List ℕ) (i n : ℕ) (sizes sleepers : List ℕ) (op
   pub kept : StepsKept file i n sizes sleepers opened firsts
   pub no_barrier : opened ≡ 0 → is_barrier (file_record file i) ≡ true → any_of is_sleep (before file i) ≡ true
   pub no_sleep : opened ≡ 0 → is_sleep (file_record file i) ≡ false
-  pub decoded : decoded_of (file_record file i) ≡ decoded.Read b
+  pub decoded : decoded_of (file_record file i) ≡ Some b
+
+pub one-step : {file : List ℕ} {count i n : ℕ} {sizes : List ℕ} {start opened : ℕ} {firsts : List ℕ} {b : Body} → StepsSoFar file count n sizes start → i < count
+    → (opened ≡ 0 → i ≡ start) → StepsKept file i n sizes (sleepers_in (before file start)) opened firsts → decoded_of (file_record file i) ≡ Some b
+    → OneStep file i n sizes (sleepers_in (before file start)) opened firsts b
+one-step {file} s inside begun k decoded =
+    record {
+      kept = k;
+      no_barrier = λ z. subst⁻¹ (λ (j : ℕ). is_barrier (file_record file j) ≡ true → any_of is_sleep (before file j) ≡ true) (begun z) (s.no_barrier (omega (arith, begun z)));
+      no_sleep = λ z. subst⁻¹ (λ (j : ℕ). is_sleep (file_record file j) ≡ false) (begun z) (s.no_sleep (omega (arith, begun z)));
+      decoded = decoded;
+    }
 
 module _ {file : List ℕ} {i n : ℕ} {sizes sleepers : List ℕ} {opened : ℕ} {firsts : List ℕ} {b : Body} (at : OneStep file i n sizes sleepers opened firsts b) where
   same : file_record file i ≡ record_of b
@@ -154,7 +196,7 @@ module _ {file : List ℕ} {i n : ℕ} {sizes sleepers : List ℕ} {opened : ℕ
   same-rule = marked-rule file i at.kept.least at.decoded ∙ later-rule
 
   -- an op without a row
-  pub no-step-rule : limits_for b.op ≡ none → kept_rule n opened sizes firsts i b ≡ some (no_step b.op)
+  pub no-step-rule : limits_for b.op ≡ None → kept_rule n opened sizes firsts i b ≡ some (no_step b.op)
   no-step-rule e = simp (unknown b.op e) (go (eqb b.op op_plan_record) (eqb b.op op_barrier_record) (eqb b.op op_sleep_record))
     where
       go : (p q s : Bool) → refuse_if p protocol.bad_plan (refuse_if q protocol.bad_barrier (refuse_if s protocol.bad_sleep (some protocol.bad_op)))
@@ -207,6 +249,12 @@ module _ {file : List ℕ} {i n : ℕ} {sizes sleepers : List ℕ} {opened : ℕ
       where
         more : before file (i + 1) ≡ before file i ++ one (record_of b)
         more = before_more file i ∙ ap (λ (r : Record). before file i ++ one r) same
+
+    pub step-taken : {part : List ℕ} → part ≡ replicate (length (mid_of opened (b.worker + 1 - opened) firsts)) i
+        → StepsKept file (i + 1) n sizes sleepers (b.worker + 1) (put_mid opened (b.worker + 1 - opened) firsts part)
+    step-taken e =
+        let k = at.kept in
+        step-more (filled firsts _ opened (b.worker + 1) i (omega (arith, step_of.level, k.opens)) (omega (arith, worker-below, k.few, k.size)) e)
 
 -- plain steps of the worker that was opened last, up to its last one that is allowed
 module _ {file : List ℕ} {n : ℕ} {sizes sleepers : List ℕ} {opened : ℕ} {firsts : List ℕ} {w : ℕ} (last : opened ≡ w + 1) (below : opened ≤ n) where

@@ -1,17 +1,12 @@
 -- The code's enums and structs as the protocol's definitions have them.
-use Rattle.std.specs.Prelude.{ℕ, ◌≤◌, cond, ◌≡◌, eqb}
+use Rattle.std.specs.Prelude.{ℕ, ◌≤◌, cond, ◌≡◌, eqb, Option, Some, None, Result, Ok, Err}
 use Rattle.std.proofs.Math.Option.{none, some}
 use Rattle.protocol.specs.Format as format
 use Rattle.protocol.specs.Refusals as protocol
 use Rattle.plan.specs.declared.answer.Refusal.{Refusal}
 use Rattle.plan.specs.declared.answer.Refusal.TheVariants as refusal
-use Rattle.plan.specs.declared.answer.Rule.{Rule}
-use Rattle.plan.specs.declared.answer.Rule.TheVariants.{Holds, Refuses}
-use Rattle.plan.specs.declared.answer.Verdict.{Verdict}
-use Rattle.plan.specs.declared.answer.Verdict.TheVariants.{Accepted, Refused}
+use Rattle.plan.specs.declared.answer.Refused.{Refused}
 use Rattle.plan.specs.declared.decode.Record.{Record}
-use Rattle.plan.specs.declared.decode.Decoded.{Decoded}
-use Rattle.plan.specs.declared.decode.Decoded.TheVariants.{Read, Unmarked}
 
 abbrev pub refusal_of : Refusal → protocol.Refusal
 refusal_of refusal.BadLength = protocol.bad_length
@@ -30,13 +25,20 @@ refusal_of refusal.BadTurn = protocol.bad_turn
 refusal_of refusal.BadSleep = protocol.bad_sleep
 refusal_of refusal.BadBatch = protocol.bad_batch
 
-abbrev pub rule_as : Rule → protocol.Rule
-rule_as Holds = none
-rule_as (Refuses f) = some (refusal_of f)
+abbrev pub rule_as : Result Unit Refusal → protocol.Rule
+rule_as (Ok x) = none
+rule_as (Err f) = some (refusal_of f)
 
-abbrev pub verdict_of : Verdict → protocol.Verdict
-verdict_of Accepted = protocol.accepted
-verdict_of (Refused f i) = protocol.refused (refusal_of f) i
+-- a refusal with an index, and the verdict that it is
+abbrev pub refused_by : Refusal → ℕ → Refused
+refused_by f i = record { refusal = f; index = i }
+
+abbrev pub refused_as : Refused → protocol.Verdict
+refused_as e = protocol.refused (refusal_of e.refusal) e.index
+
+abbrev pub verdict_of : {T : Type 0} → Result T Refused → protocol.Verdict
+verdict_of (Ok x) = protocol.accepted
+verdict_of (Err e) = refused_as e
 
 -- a record without its mark, and with it again
 abbrev pub body_of : format.Record → Record
@@ -46,9 +48,9 @@ abbrev pub record_of : Record → format.Record
 record_of r =
     record { mark = format.plan_mark; worker = r.worker; op = r.op; register = r.register; number = r.number }
 
-abbrev pub decoded_of : format.Record → Decoded
-decoded_of r = cond (eqb r.mark format.plan_mark) (Read (body_of r)) Unmarked
+abbrev pub decoded_of : format.Record → Option Record
+decoded_of r = cond (eqb r.mark format.plan_mark) (Some (body_of r)) None
 
 -- the index is that of a record
-abbrev pub Indexed : Verdict → Type 0
+abbrev pub Indexed : {T : Type 0} → Result T Refused → Type 0
 Indexed v = (f : protocol.Refusal) (i : ℕ) → verdict_of v ≡ protocol.refused f i → i ≤ format.records_limit

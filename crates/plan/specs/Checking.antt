@@ -1,10 +1,10 @@
 -- What the check of a file answers.
-use Rattle.std.specs.Prelude.{ℕ, ◌+◌, ◌<◌, ◌≡◌, List, length, get_or}
+use Rattle.std.specs.Prelude.{ℕ, ◌+◌, ◌<◌, ◌≡◌, List, length, get_or, Result, IfOk}
 use Rattle.protocol.specs.Format.{barrier_count, workers_limit, records, workers_in, size_in, first_in, sleepers_in}
 use Rattle.protocol.specs.Refusals as protocol
 use Rattle.plan.specs.Answer.{verdict_of}
 use Rattle.plan.specs.Sleeping.{FirstFates}
-use Rattle.plan.specs.declared.check.Checked.{Checked}
+use Rattle.plan.specs.declared.answer.Refused.{Refused}
 use Rattle.plan.specs.declared.check.Layout.{Layout}
 
 -- the layout of a file's records
@@ -17,6 +17,6 @@ pub record LaidOut (file : List ℕ) (l : Layout) : Type 0 where
   pub fates : FirstFates (sleepers_in (records file)) l.fates
 
 -- the verdict is the definition's; the layout of an accepted file is that of its records
-pub record CheckedAs (file : List ℕ) (r : Checked) : Type 0 where
-  pub verdict : verdict_of r.verdict ≡ protocol.check file
-  pub layout : verdict_of r.verdict ≡ protocol.accepted → LaidOut file r.layout
+pub record CheckedAs (file : List ℕ) (r : Result Layout Refused) : Type 0 where
+  pub verdict : verdict_of r ≡ protocol.check file
+  pub layout : IfOk r (LaidOut file)

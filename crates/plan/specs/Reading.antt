@@ -2,8 +2,7 @@
 use Rattle.std.specs.Prelude.{ℕ, ◌-◌, ◌*◌, ◌<◌, ◌≤◌, Bool, false, ◌||◌, ◌≡◌, List, ltb, length, get_or}
 use Rattle.protocol.specs.Format as format
 use Rattle.protocol.specs.Refusals as protocol
-use Rattle.protocol.specs.Calls.{both}
-use Rattle.plan.specs.Answer.{record_of, verdict_of}
+use Rattle.plan.specs.Answer.{record_of}
 use Rattle.plan.specs.declared.barriers.Barriers.{Barriers}
 use Rattle.plan.specs.declared.decode.Record.{Record}
 
@@ -32,10 +31,11 @@ pub record HeadSoFar (file : List ℕ) (i : ℕ) (sizes : List ℕ) : Type 0 whe
   pub size : length sizes ≡ format.barrier_count
   pub right : (b : ℕ) → b < format.barrier_count → get_or sizes b 0 ≡ format.size_in (before file i) b
 
+-- the barrier records are read, and what is left of the check is the same behind them
 pub record BarriersRead (file : List ℕ) (count : ℕ) (r : Barriers) : Type 0 where
   pub least : 1 ≤ r.next
   pub most : r.next ≤ count
-  pub verdict : both (verdict_of r.verdict) (verdict_from file count r.next) ≡ verdict_from file count 1
+  pub verdict : verdict_from file count r.next ≡ verdict_from file count 1
   pub head : HeadSoFar file r.next r.sizes
   pub no_sleeper : protocol.any_of format.is_sleep (before file r.next) ≡ false
-  pub no_barrier : verdict_of r.verdict ≡ protocol.accepted → r.next < count → format.is_barrier (file_record file r.next) ≡ false
+  pub no_barrier : r.next < count → format.is_barrier (file_record file r.next) ≡ false

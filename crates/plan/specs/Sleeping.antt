@@ -3,11 +3,9 @@ use Rattle.std.specs.Prelude.{ℕ, ◌<◌, ◌≤◌, Bool, true, false, ◌||�
 use Rattle.protocol.specs.Format as format
 use Rattle.protocol.specs.Refusals as protocol
 use Rattle.protocol.specs.Rounds.{member}
-use Rattle.protocol.specs.Calls.{both}
 use Rattle.format.specs.Fates.{code_going, code_asleep}
-use Rattle.plan.specs.Answer.{record_of, verdict_of}
+use Rattle.plan.specs.Answer.{record_of}
 use Rattle.plan.specs.Reading.{file_record, before, verdict_from, RulesHold}
-use Rattle.plan.specs.declared.sleepers.Sleepers.{Sleepers}
 use Rattle.plan.specs.declared.decode.Record.{Record}
 
 -- whether a sleep record is refused in a plan of n workers, where the next sleeper is at least low and there is no step before it
@@ -44,9 +42,10 @@ pub record HeadRead (file : List ℕ) (count start next : ℕ) : Type 0 where
   pub no_barrier : next < count → format.is_barrier (file_record file next) ≡ true → protocol.any_of format.is_sleep (before file next) ≡ true
   pub no_sleep : next < count → format.is_sleep (file_record file next) ≡ false
 
-pub record SleepersRead (file : List ℕ) (count start : ℕ) (r : Sleepers) (fates : List ℕ) : Type 0 where
-  pub least : start ≤ r.next
-  pub most : r.next ≤ count
-  pub verdict : both (verdict_of r.verdict) (verdict_from file count r.next) ≡ verdict_from file count start
-  pub head : verdict_of r.verdict ≡ protocol.accepted → HeadRead file count start r.next
-  pub first : verdict_of r.verdict ≡ protocol.accepted → FirstFates (format.sleepers_in (before file r.next)) fates
+-- the sleep records are read, up to record `next`
+pub record SleepersRead (file : List ℕ) (count start next : ℕ) (fates : List ℕ) : Type 0 where
+  pub least : start ≤ next
+  pub most : next ≤ count
+  pub verdict : verdict_from file count next ≡ verdict_from file count start
+  pub head : HeadRead file count start next
+  pub first : FirstFates (format.sleepers_in (before file next)) fates

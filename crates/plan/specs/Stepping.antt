@@ -1,5 +1,5 @@
 -- What the reading of the step records finds, by record index.
-use Rattle.std.specs.Prelude.{ℕ, ◌+◌, ◌-◌, max, ◌<◌, ◌≤◌, Bool, true, false, cond, not, ◌&&◌, ◌||◌, ◌≡◌, List, leb, ltb, eqb, length, get_or}
+use Rattle.std.specs.Prelude.{ℕ, ◌+◌, ◌-◌, max, ◌<◌, ◌≤◌, Bool, true, false, cond, not, ◌&&◌, ◌||◌, ◌≡◌, List, leb, ltb, eqb, length, get_or, Some, Result}
 use Rattle.protocol.specs.Ops.{op_plan_record, op_barrier_record, op_sleep_record, op_barrier}
 use Rattle.protocol.specs.Format as format
 use Rattle.protocol.specs.Refusals as protocol
@@ -9,8 +9,7 @@ use Rattle.format.specs.declared.table.Row.{Row}
 use Rattle.plan.specs.Answer.{record_of, decoded_of, verdict_of}
 use Rattle.plan.specs.Reading.{file_record, before, verdict_from, RulesHold}
 use Rattle.plan.specs.declared.decode.Record.{Record}
-use Rattle.plan.specs.declared.decode.Decoded.TheVariants as decoded
-use Rattle.plan.specs.declared.answer.Verdict.{Verdict}
+use Rattle.plan.specs.declared.answer.Refused.{Refused}
 
 abbrev pub outside_of : Row → ℕ → ℕ → Bool
 outside_of row register number = ltb row.registers register || outside row.least row.most number
@@ -57,7 +56,7 @@ pub record WorkersOpened (old : List ℕ) (opened ends i : ℕ) (new : List ℕ)
 -- record i is a step of worker w, and its operands keep their rule
 pub record PlainStep (file : List ℕ) (n : ℕ) (sizes : List ℕ) (w i : ℕ) : Type 0 where
   pub body : Record
-  pub decoded : decoded_of (file_record file i) ≡ decoded.Read body
+  pub decoded : decoded_of (file_record file i) ≡ Some body
   pub same : body.worker ≡ w
   pub known : format.known body.op ≡ true
   pub operands : kept_operand_rule n sizes body ≡ holds
@@ -89,7 +88,7 @@ pub record RecordsRead (file : List ℕ) (count : ℕ) (sizes : List ℕ) (start
   pub sleepers : format.sleepers_in (before file count) ≡ format.sleepers_in (before file start)
 
 -- the whole file, or the refusal
-pub record StepsRead (file : List ℕ) (count : ℕ) (sizes : List ℕ) (start : ℕ) (v : Verdict) (firsts : List ℕ) : Type 0 where
+pub record StepsRead (file : List ℕ) (count : ℕ) (sizes : List ℕ) (start : ℕ) (v : Result Unit Refused) (firsts : List ℕ) : Type 0 where
   pub verdict : both (verdict_of v) (protocol.check_skips 0 (before file count)) ≡ verdict_from file count start
   pub size : length firsts ≡ format.workers_limit + 1
   pub read : verdict_of v ≡ protocol.accepted → RecordsRead file count sizes start firsts

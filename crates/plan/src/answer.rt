@@ -1,71 +1,61 @@
 // What a check answers.
 ghost use Rattle.std.specs.Prelude.{◌≡◌};
 ghost use Rattle.protocol.specs.Refusals.{number_of, code_of};
-ghost use Rattle.plan.specs.Answer.{refusal_of, verdict_of, Indexed};
+ghost use Rattle.plan.specs.Answer.{refusal_of, refused_by, verdict_of, Indexed};
 
-#[derive(Clone, Copy)]
+// The refusals, with the paper's numbers.
+#[derive(Clone, Copy, PartialEq, Eq)]
 pub enum Refusal {
-    BadLength,
-    BadMark,
-    BadPlan,
-    BadBarrier,
-    BadWorker,
-    BadOp,
-    BadOperand,
-    TooManySteps,
-    NoSize,
-    SkipTooFar,
-    BadBuffer,
-    TooManyTurns,
-    BadTurn,
-    BadSleep,
-    BadBatch,
+    BadLength = 1,
+    BadMark = 2,
+    BadPlan = 3,
+    BadBarrier = 4,
+    BadWorker = 5,
+    BadOp = 6,
+    BadOperand = 7,
+    TooManySteps = 8,
+    NoSize = 9,
+    SkipTooFar = 10,
+    BadBuffer = 11,
+    TooManyTurns = 12,
+    BadTurn = 13,
+    BadSleep = 14,
+    BadBatch = 15,
 }
 
-// What one rule says: the reading goes on, or it ends with a refusal.
-#[derive(Clone, Copy)]
-pub enum Rule {
-    Holds,
-    Refuses(Refusal),
+// A refusal, and the index of its record.
+#[derive(Clone, Copy, PartialEq, Eq)]
+pub struct Refused {
+    pub refusal: Refusal,
+    pub index: usize,
 }
 
-// Accepted, or a refusal with the index of its record.
-#[derive(Clone, Copy)]
-pub enum Verdict {
-    Accepted,
-    Refused(Refusal, usize),
-}
-
-// The paper's number of a refusal.
-pub fn number(f: Refusal) -> u32
-    ensures { result ≡ number_of (refusal_of f) }
-{
-    match f {
-        Refusal::BadLength => 1,
-        Refusal::BadMark => 2,
-        Refusal::BadPlan => 3,
-        Refusal::BadBarrier => 4,
-        Refusal::BadWorker => 5,
-        Refusal::BadOp => 6,
-        Refusal::BadOperand => 7,
-        Refusal::TooManySteps => 8,
-        Refusal::NoSize => 9,
-        Refusal::SkipTooFar => 10,
-        Refusal::BadBuffer => 11,
-        Refusal::TooManyTurns => 12,
-        Refusal::BadTurn => 13,
-        Refusal::BadSleep => 14,
-        Refusal::BadBatch => 15,
+impl Refusal {
+    pub fn at(self, index: usize) -> Refused
+        ensures { result ≡ refused_by self index }
+    {
+        Refused {
+            refusal: self,
+            index,
+        }
     }
 }
 
-// A verdict as one number for C: the refusal + 256 × the index.
-pub fn code(v: Verdict) -> u32
-    requires { Indexed v }
-    ensures { result ≡ code_of (verdict_of v) }
+impl From<Refusal> for u32 {
+    ghost from_gives = { λ f n. n ≡ number_of (refusal_of f) };
+
+    fn from(refusal: Refusal) -> u32 {
+        refusal as u32
+    }
+}
+
+// An answer as one number for C: 0, or the refusal + 256 × the index.
+pub fn code<T>(answer: &Result<T, Refused>) -> u32
+    requires { Indexed answer.now }
+    ensures { result ≡ code_of (verdict_of answer.now) }
 {
-    match v {
-        Verdict::Accepted => 0,
-        Verdict::Refused(f, i) => number(f) + 256 * (i as u32),
+    match answer {
+        Ok(_) => 0,
+        Err(refused) => u32::from(refused.refusal) + 256 * (refused.index as u32),
     }
 }

@@ -6,18 +6,12 @@ ghost use Rattle.plan.specs.Answer.{body_of, decoded_of};
 use format::limits::{PLAN_MARK, RECORD_NUMBER, RECORD_OP, RECORD_REGISTER, RECORD_WORKER};
 use words::word;
 
-#[derive(Clone, Copy)]
+#[derive(Clone, Copy, PartialEq, Eq)]
 pub struct Record {
     pub worker: u8,
     pub op: u8,
     pub register: u8,
     pub number: u16,
-}
-
-#[derive(Clone, Copy)]
-pub enum Decoded {
-    Read(Record),
-    Unmarked,
 }
 
 // The high byte of a record's number.
@@ -37,12 +31,12 @@ pub fn body(file: &[u8], at: usize) -> Record
 }
 
 // The record whose first byte is at a position, if it has the mark.
-pub fn decode(file: &[u8], at: usize) -> Decoded
+pub fn decode(file: &[u8], at: usize) -> Option<Record>
     requires { at + record_length ≤ length file.now }
     ensures { result ≡ decoded_of (record_from file.now at) }
 {
     if word(file[at], file[at + 1]) != PLAN_MARK {
-        return Decoded::Unmarked;
+        return None;
     }
-    Decoded::Read(body(file, at))
+    Some(body(file, at))
 }

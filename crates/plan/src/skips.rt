@@ -6,7 +6,7 @@ ghost use Rattle.plan.specs.Skipping.{too_far, SkipChecking};
 ghost use Rattle.protocol.specs.Format.{record_length, records_limit, workers_limit, is_skip};
 ghost use Rattle.protocol.specs.Refusals.{check_skips};
 
-use crate::answer::{Refusal, Verdict};
+use crate::answer::{Refusal, Refused};
 use crate::decode::{Record, body};
 use format::limits::{RECORD_LENGTH, WORKERS_LIMIT};
 use format::ops;
@@ -14,10 +14,7 @@ use format::ops;
 fn is_skip(op: u8) -> bool
     ensures { result ≡ is_skip op }
 {
-    if op == ops::SKIP_ZERO {
-        return true;
-    }
-    op == ops::SKIP_NONZERO
+    op == ops::SKIP_ZERO || op == ops::SKIP_NONZERO
 }
 
 // Whether record i is a skip that leaves its worker's steps.
@@ -26,26 +23,24 @@ fn too_far(r: Record, i: usize, firsts: &[usize; WORKERS_LIMIT + 1]) -> bool
     requires i_lt_records_limit { i < records_limit }
     ensures { result ≡ too_far firsts.now i r }
 {
-    if !is_skip(r.op) {
-        return false;
-    }
-    let next = r.worker as usize + 1;
-    firsts[next] < i + 1 + r.number as usize
+    is_skip(r.op) && firsts[r.worker as usize + 1] < i + 1 + r.number as usize
 }
 
 // The first skip too far, if there is one.
-pub fn check_skips(file: &[u8], count: usize, firsts: &[usize; WORKERS_LIMIT + 1]) -> Verdict
+pub fn check_skips(
+    file: &[u8],
+    count: usize,
+    firsts: &[usize; WORKERS_LIMIT + 1],
+) -> Result<(), Refused>
     requires count_in_bounds { record_length * count ≤ length file.now }
     requires count_le_records_limit { count ≤ records_limit }
     requires skip_checking { SkipChecking file.now count firsts.now }
     ensures { verdict_of result ≡ check_skips 0 (before file.now count) }
 {
-    let mut i = 0;
-    while i < count {
+    for i in 0..count {
         if too_far(body(file, RECORD_LENGTH * i), i, firsts) {
-            return Verdict::Refused(Refusal::SkipTooFar, i);
+            return Err(Refusal::SkipTooFar.at(i));
         }
-        i += 1;
     }
-    Verdict::Accepted
+    Ok(())
 }

@@ -29,7 +29,7 @@ returns-then-too_far c =
     let inv = c.loop-i.invariant in
     let test = sym (c.too_far.ensures ∙ ap (λ (r : Body). too_far a.firsts.now i r) c.body.ensures) in
     let next = skips-next a.file.now a.count a.firsts.now c.requires.skip_checking i c.loop-i-test.true in
-    sym (next true (test ∙ c.if-too_far.true)) ∙ inv.1
+    rw c.at.ensures (sym (next true (test ∙ c.if-too_far.true)) ∙ inv.1)
 
 pub loop-i-preserved : goal.loop-i-preserved
 loop-i-preserved c =

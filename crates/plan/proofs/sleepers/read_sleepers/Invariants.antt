@@ -1,11 +1,7 @@
-use Prim.Native.Nat.{◌-◌}
-use mathlib.Core.Path.{◌≡◌}
+use Rattle.std.proofs.Common.{◌≡◌}
 use Rattle.plan.specs.Reading.{verdict_from}
 use Rattle.plan.proofs.Slept.{SleepersAt}
 use Rattle.plan.proofs.sleepers.read_sleepers.Given as goal
 
 abbrev pub invariant-loop-i : goal.invariant-loop-i
 invariant-loop-i l = SleepersAt l.file l.count l.n l.start l.i l.low l.fates × (verdict_from l.file l.count l.i ≡ verdict_from l.file l.count l.start)
-
-abbrev pub decreases-loop-i : goal.decreases-loop-i
-decreases-loop-i l = l.count - l.i

@@ -28,28 +28,28 @@ pub bounds-sizes-at : goal.bounds-sizes-at
 bounds-sizes-at c =
     let inside_here : operands_outside (row_of c.args.r.op) c.args.r.register c.args.r.number ≡ false =
     outside-row _ _ c.requires _ _ ∙ sym c.outside.ensures ∙ c.if-outside.false in
-    omega (arith, barrier-number c.args.r.op c.args.r.register c.args.r.number c.if-r-eq-BARRIER.true inside_here)
+    omega (arith, barrier-number c.args.r.op c.args.r.register c.args.r.number c.in-37.is inside_here)
 
-pub returns-then-sizes-at-eq0 : goal.returns-then-sizes-at-eq0
-returns-then-sizes-at-eq0 c =
+pub returns-in-37 : goal.returns-in-37
+returns-in-37 c =
     let inside_here : operands_outside (row_of c.args.r.op) c.args.r.register c.args.r.number ≡ false =
     outside-row _ _ c.requires _ _ ∙ sym c.outside.ensures ∙ c.if-outside.false in
-    simp (inside_here, barrier-only c.args.r.op c.if-r-eq-BARRIER.true, eq-eqb _ _ c.if-r-eq-BARRIER.true, eq-eqb _ _ c.if-sizes-at-eq0.true)
+    simp (inside_here, barrier-only c.args.r.op c.in-37.is, eq-eqb _ _ c.in-37.is, eq-eqb _ _ c.if-sizes-at-eq0.true)
 
-pub returns-then-r-eq-BARRIER : goal.returns-then-r-eq-BARRIER
-returns-then-r-eq-BARRIER c =
+pub returns-in_default : goal.returns-in_default
+returns-in_default c =
     let inside_here : operands_outside (row_of c.args.r.op) c.args.r.register c.args.r.number ≡ false =
     outside-row _ _ c.requires _ _ ∙ sym c.outside.ensures ∙ c.if-outside.false in
-    simp (inside_here, barrier-only c.args.r.op c.if-r-eq-BARRIER.true, eq-eqb _ _ c.if-r-eq-BARRIER.true, ne_eqb _ _ c.if-sizes-at-eq0.false)
+    simp (inside_here, barrier-only c.args.r.op c.in-37.is, eq-eqb _ _ c.in-37.is, ne_eqb _ _ c.if-sizes-at-eq0.false)
 
-pub returns-else-n-at : goal.returns-else-n-at
-returns-else-n-at c =
+pub returns-in_default-2 : goal.returns-in_default-2
+returns-in_default-2 c =
     let inside_here : operands_outside (row_of c.args.r.op) c.args.r.register c.args.r.number ≡ false =
     outside-row _ _ c.requires _ _ ∙ sym c.outside.ensures ∙ c.if-outside.false in
-    simp (inside_here, eq-eqb _ _ c.if-r-eq-START.true, lt-leb _ _ c.if-n-at.false, ne_eqb _ _ c.if-r-eq-BARRIER.false)
+    simp (inside_here, eq-eqb _ _ c.in-39.is, ne_eqb c.args.r.op op_barrier (λ z. omega (arith, z, c.in-39.is)), lt-leb _ _ c.if-n-at.false)
 
-pub returns-else-r-eq-START : goal.returns-else-r-eq-START
-returns-else-r-eq-START c =
+pub returns-in_default-3 : goal.returns-in_default-3
+returns-in_default-3 c =
     let inside_here : operands_outside (row_of c.args.r.op) c.args.r.register c.args.r.number ≡ false =
     outside-row _ _ c.requires _ _ ∙ sym c.outside.ensures ∙ c.if-outside.false in
-    simp (inside_here, ne_eqb _ _ c.if-r-eq-START.false, ne_eqb _ _ c.if-r-eq-BARRIER.false)
+    simp (inside_here, ne_eqb c.args.r.op op_start (λ z. omega (arith, z, c.in_default)), ne_eqb c.args.r.op op_barrier (λ z. omega (arith, z, c.in_default)))
