@@ -1,13 +1,14 @@
 // Whether a call with many plans is admitted.
 ghost use Rattle.std.specs.Prelude.{◌≡◌, ◌*◌, ◌≤◌, length};
 ghost use Rattle.protocol.specs.Batch.{plans_limit, length_bytes, begins_at};
-ghost use Rattle.admission.specs.Plans.{unevenly, batch_code};
+ghost use Rattle.protocol.specs.Refusals.{ruled, accepted};
+ghost use Rattle.plan.specs.Answer.{rule_as};
+ghost use Rattle.admission.specs.Plans.{unevenly, batch_for};
 
-use crate::ACCEPTED;
 use journal::log::LOG_LENGTH;
 use journal::report::REPORT_LENGTH;
 use pages::{MEMORY_LENGTH, WORK_LENGTH};
-use plan::answer::{Refusal, number};
+use plan::answer::Refusal;
 use words::long_at;
 
 pub const PLANS_LIMIT: usize = 40;
@@ -31,25 +32,13 @@ pub struct BatchLengths {
 fn uneven(count: usize, l: BatchLengths) -> bool
     ensures { result ≡ unevenly count l }
 {
-    if count < 1 {
-        return true;
-    }
-    if PLANS_LIMIT < count {
-        return true;
-    }
-    if l.lengths != LENGTH_BYTES * count {
-        return true;
-    }
-    if l.memories != MEMORY_LENGTH * count {
-        return true;
-    }
-    if l.logs != LOG_LENGTH * count {
-        return true;
-    }
-    if l.reports != REPORT_LENGTH * count {
-        return true;
-    }
-    l.answers != count
+    count < 1
+        || PLANS_LIMIT < count
+        || l.lengths != LENGTH_BYTES * count
+        || l.memories != MEMORY_LENGTH * count
+        || l.logs != LOG_LENGTH * count
+        || l.reports != REPORT_LENGTH * count
+        || l.answers != count
 }
 
 // The bytes of so many files: no sum of 40 lengths wraps.
@@ -58,27 +47,22 @@ fn add_up(count: usize, lengths: &[u8]) -> usize
     ensures { result ≡ begins_at lengths.now count }
 {
     let mut sum = 0;
-    let mut k = 0;
-    while k < count {
+    for k in 0..count {
         sum += long_at(lengths, LENGTH_BYTES * k) as usize;
-        k += 1;
     }
     sum
 }
 
 // The tests in the paper's order: 11, then 15.
-pub fn admit_batch(count: usize, lengths: &[u8], lent: BatchLengths) -> u32
+pub fn admit_batch(count: usize, lengths: &[u8], lent: BatchLengths) -> Result<(), Refusal>
     requires { lent.lengths ≡ length lengths.now }
-    ensures { result ≡ batch_code count lengths.now lent }
+    ensures { ruled (rule_as result) 0 accepted ≡ batch_for count lengths.now lent }
 {
     if lent.work != WORK_LENGTH {
-        return number(Refusal::BadBuffer);
+        return Err(Refusal::BadBuffer);
     }
-    if uneven(count, lent) {
-        return number(Refusal::BadBatch);
+    if uneven(count, lent) || add_up(count, lengths) != lent.files {
+        return Err(Refusal::BadBatch);
     }
-    if add_up(count, lengths) != lent.files {
-        return number(Refusal::BadBatch);
-    }
-    ACCEPTED
+    Ok(())
 }
