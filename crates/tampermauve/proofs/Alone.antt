@@ -8,7 +8,10 @@ use borrow.Author.Tests.{le-ltb}
 use lib.Dec.{ltb}
 use lib.ListN.{length, get_or}
 use Rattle.protocol.specs.Format.{workers_limit}
-use Rattle.protocol.specs.Refusals.{Verdict, accepted, refused, code_of, check}
+use Rattle.protocol.specs.Refusals.{accepted, number_of, check}
+use Rattle.protocol.proofs.Numbered.{numbered}
+use Rattle.plan.specs.Answer.{refusal_of, refused_as}
+use Rattle.plan.specs.declared.answer.Refused.{Refused}
 use Rattle.protocol.specs.Rounds.{State}
 use Rattle.protocol.specs.Report.{report_bytes}
 use Rattle.protocol.specs.Calls.{Buffers, Reply, lent_log}
@@ -61,20 +64,18 @@ module _ (file : List ℕ) (b : Buffers) (fits : Fitting b) where
   }
 
   -- refused: nothing is touched, and the answer is the number without its index
-  pub refused-alone : (k : ℕ) → k ≡ code_of (check file) → (k ≡ 0 → ⊥) → RanAlone file b (k % 256) b.memory b.log b.report b.work
-  refused-alone k e some = go (check file) refl
-    where
-      go : (v : Verdict) → check file ≡ v → RanAlone file b (k % 256) b.memory b.log b.report b.work
-      go accepted v = absurd (some (e ∙ ap code_of v))
-      go (refused f i) v =
-          let same = sym (separate-refused file b fits f i v) in
-          record {
-            answered = ap (λ (n : ℕ). n % 256) (e ∙ ap code_of v) ∙ ap (λ (r : Reply). answer_of r.returned) same;
-            same_memory = ap (λ (r : Reply). r.buffers.memory) same;
-            same_log = ap (λ (r : Reply). r.buffers.log) same;
-            same_report = ap (λ (r : Reply). r.buffers.report) same;
-            untouched = λ n. refl;
-          }
+  pub refused-alone : (e : Refused) → refused_as e ≡ check file → RanAlone file b (number_of (refusal_of e.refusal)) b.memory b.log b.report b.work
+  refused-alone e bad =
+      let f = refusal_of e.refusal in
+      let same = sym (separate-refused file b fits f e.index (sym bad)) in
+      let alone : number_of f ≡ (number_of f + 256 * e.index) % 256 = omega (arith, (numbered f).1) in
+      record {
+        answered = alone ∙ ap (λ (r : Reply). answer_of r.returned) same;
+        same_memory = ap (λ (r : Reply). r.buffers.memory) same;
+        same_log = ap (λ (r : Reply). r.buffers.log) same;
+        same_report = ap (λ (r : Reply). r.buffers.report) same;
+        untouched = λ n. refl;
+      }
 
   -- accepted: some turns have ended the plan, so demand 3 makes it what the round-by-round run leaves, as the separate call does
   pub accepted-alone : {turns memory log report work : List ℕ} → check file ≡ accepted → Performed file turns true b.memory memory log report

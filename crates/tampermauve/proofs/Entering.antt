@@ -2,7 +2,7 @@
 use Prim.Native.Nat.{ℕ, ◌<◌}
 use native.Mathlib.Omega.{arith}
 use mathlib.Core.Bool.{false}
-use mathlib.Core.Path.{◌≡◌, sym, ◌∙◌}
+use mathlib.Core.Path.{◌≡◌, sym}
 use mathlib.Core.List.{List}
 use borrow.Author.Tests.{ltb-false, leb-false}
 use lib.Dec.{leb, ltb}
@@ -19,9 +19,9 @@ use Rattle.protocol.proofs.FirstDue.{fitting}
 use Rattle.plan.specs.Checking.{LaidOut}
 use Rattle.plan.specs.declared.check.Layout.{Layout}
 use Rattle.engine.specs.Moving.{Laid}
-use Rattle.admission.specs.Run.{lengths_of, answer_by, Admits}
+use Rattle.admission.specs.Run.{lengths_of, Admits}
+use Rattle.std.specs.Prelude.{Ok}
 use Rattle.tampermauve.specs.Run.{Performing}
-use Rattle.admission.specs.declared.run.Admitted.{Admitted}
 use Rattle.admission.proofs.Admitting.{plan-workers}
 use Rattle.tampermauve.proofs.Ran.{Cleared, passed}
 
@@ -32,12 +32,9 @@ turn_below n turns i e h = leb-false n (get_or turns i 0) (any_none (λ w. leb n
 pub laid_out : {file : List ℕ} {l : Layout} → LaidOut file l → check file ≡ accepted → Laid file l.sizes l.firsts
 laid_out l ok = record { ok = ok; sizes_right = l.sizes; firsts_right = l.firsts }
 
-module _ (file turns : List ℕ) (b : Buffers) (a : Admitted) (h : Admits file turns (lengths_of b) a) (z : a.code ≡ 0) where
-  pub answered : 0 ≡ answer_by file turns (misfit b)
-  answered = sym z ∙ h.code
-
+module _ (file turns : List ℕ) (b : Buffers) (l : Layout) (h : Admits file turns (lengths_of b) (Ok l)) where
   tested : Cleared (misfit b) (ltb turns_limit (length turns)) (check file) (names_nobody (workers_of (plan_of file)) turns)
-  tested = passed file turns b (sym answered)
+  tested = passed file turns b (sym h.verdict)
 
   pub buffers-fit : Fitting b
   buffers-fit = fitting b tested.buffers
@@ -45,19 +42,19 @@ module _ (file turns : List ℕ) (b : Buffers) (a : Admitted) (h : Admits file t
   pub file-ok : check file ≡ accepted
   file-ok = tested.file
 
-  pub performing : Performing file a.layout turns false b.memory b.log b.report b.work
+  pub performing : Performing file l turns false b.memory b.log b.report b.work
   performing = record {
     playing =
         record {
           named =
               record {
-                laid = laid_out (h.layout z) file-ok;
-                below = λ i l. omega (arith, turn_below (workers_of (plan_of file)) turns i tested.known l, (sound-file file file-ok).workers);
+                laid = laid_out h.layout file-ok;
+                below = λ i inside. omega (arith, turn_below (workers_of (plan_of file)) turns i tested.known inside, (sound-file file file-ok).workers);
                 short = ltb-false turns_limit (length turns) tested.short;
               };
           stretches = λ e. clash e;
-          workers = plan-workers file (h.layout z) file-ok;
-          fates = (h.layout z).fates;
+          workers = plan-workers file h.layout file-ok;
+          fates = h.layout.fates;
           bytes = record { memory_length = buffers-fit.memory; work_length = buffers-fit.work };
           room = buffers-fit.log;
         };

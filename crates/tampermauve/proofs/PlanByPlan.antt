@@ -5,7 +5,12 @@ use native.Mathlib.Omega.{arith}
 use mathlib.Core.Bool.{Bool, true, false, ◌||◌}
 use mathlib.Core.Path.{◌≡◌, refl, sym, ap, ◌∙◌, subst, subst⁻¹}
 use mathlib.Core.List.{List, ◌++◌}
-use borrow.Author.Tests.{eqb-true, eqb-false}
+use borrow.Author.Tests.{eqb-true, eqb-false, ne_eqb}
+use Rattle.std.specs.Prelude.{Result, Ok, Err, is_ok}
+use Rattle.protocol.specs.Refusals.{number_of}
+use Rattle.protocol.proofs.Numbered.{numbered}
+use Rattle.plan.specs.Answer.{refusal_of}
+use Rattle.plan.specs.declared.answer.Refused.{Refused}
 use lib.Dec.{eqb}
 use lib.ListN.{length, set, take, drop, replicate, length-set}
 use Rattle.protocol.specs.Format.{long_at}
@@ -17,8 +22,13 @@ use Rattle.protocol.proofs.Counting.{clash}
 use Rattle.protocol.proofs.BatchParts.{parts-length}
 use Rattle.protocol.proofs.Batches.{Sized, parts-fit, Separately, separately, Alike, alike, plans-sized}
 use Rattle.tampermauve.specs.Run.{lent}
-use Rattle.tampermauve.specs.All.{batch, Stretched, RanAlone, RanPlans}
+use Rattle.tampermauve.specs.All.{batch, Stretched, answer_for, RanAlone, RanPlans}
 use Rattle.admission.proofs.Beginning.{begins-next, begins-within}
+
+-- a plan's byte is 0 where it was accepted
+pub zero-if-ok : (r : Result Unit Refused) → eqb (answer_for r) 0 ≡ is_ok r
+zero-if-ok (Ok x) = refl
+zero-if-ok (Err e) = ne_eqb (number_of (refusal_of e.refusal)) 0 (λ z. omega (arith, z, (numbered (refusal_of e.refusal)).0))
 
 -- what stands before plan k, whose file begins at `at`
 pub record EachSoFar (files lengths : List ℕ) (count : ℕ) (b : Batch) (turns : List ℕ) (k at : ℕ) (accepted : Bool) (d : Batch) : Type 0 where

@@ -6,8 +6,12 @@ use mathlib.Core.List.{List}
 use native.Mathlib.Omega.{arith}
 use lib.Dec.{ltb}
 use lib.ListN.{length}
-use Rattle.protocol.specs.Format.{plan_of}
-use Rattle.protocol.specs.Refusals.{Verdict, accepted, refused, code_of, check}
+use Prim.Native.Nat.{◌≤◌}
+use Rattle.protocol.specs.Format.{plan_of, records_limit}
+use Rattle.protocol.proofs.Accepted.{check-index}
+use Rattle.plan.specs.Answer.{refusal_of, refused_as}
+use Rattle.plan.specs.declared.answer.Refused.{Refused}
+use Rattle.protocol.specs.Refusals.{Refusal, Verdict, accepted, refused, code_of, check}
 use Rattle.protocol.specs.Turns.{workers_of}
 use Rattle.protocol.specs.RoundRun.{round_run}
 use Rattle.protocol.specs.Calls.{Buffers, Reply, buffers_of, misfit, names_nobody, turns_limit, played_from, reply_of, verdict_by, run_verdict, run}
@@ -16,29 +20,45 @@ use Rattle.protocol.proofs.Bytes.{demand3-bytes}
 use Rattle.protocol.proofs.Naming.{by-count-bytes}
 use Rattle.protocol.proofs.UnnamedBytes.{call-keeps, calls-alike}
 use Rattle.protocol.proofs.Numbered.{numbered}
-use Rattle.admission.specs.Run.{answer_by}
+use Rattle.admission.specs.Run.{verdict_for}
 use Rattle.tampermauve.specs.Run.{Ran}
-use Rattle.admission.proofs.Admitting.{none-refused}
 
--- what an answer of 0 says of the tests
+-- the number 0 is no refusal's
+pub none-refused : (v : Verdict) → code_of v ≡ 0 → v ≡ accepted
+none-refused accepted e = refl
+none-refused (refused f i) e = absurd (omega (arith, e, (numbered f).0))
+
+-- the index of a run's refusal is that of a record, or 0
+index-by : (m t s : Bool) (v : Verdict) (f : Refusal) (i : ℕ) → ((f : Refusal) (i : ℕ) → v ≡ refused f i → i ≤ records_limit) → verdict_by m t v s ≡ refused f i → i ≤ records_limit
+index-by true t s v f i within e = let same : 0 ≡ i = cc in omega arith
+index-by false true s v f i within e = let same : 0 ≡ i = cc in omega arith
+index-by false false true accepted f i within e = let same : 0 ≡ i = cc in omega arith
+index-by false false false accepted f i within e = absurd cc
+index-by false false s (refused g j) f i within e = within f i e
+
+pub run-index : (file turns : List ℕ) (m : Bool) (f : Refusal) (i : ℕ) → verdict_for file turns m ≡ refused f i → i ≤ records_limit
+run-index file turns m f i =
+    index-by m (ltb turns_limit (length turns)) (names_nobody (workers_of (plan_of file)) turns) (check file) f i (λ g j e. check-index file j g e)
+
+-- what an accepted call says of the tests
 pub record Cleared (m t : Bool) (v : Verdict) (s : Bool) : Type 0 where
   pub buffers : m ≡ false
   pub short : t ≡ false
   pub file : v ≡ accepted
   pub known : s ≡ false
 
-tests-passed : (m t s : Bool) (v : Verdict) → code_of (verdict_by m t v s) ≡ 0 → Cleared m t v s
-tests-passed true t s v e = absurd (omega (arith, e))
-tests-passed false true s v e = absurd (omega (arith, e))
-tests-passed false false true accepted e = absurd (omega (arith, e))
+tests-passed : (m t s : Bool) (v : Verdict) → verdict_by m t v s ≡ accepted → Cleared m t v s
+tests-passed true t s v e = absurd cc
+tests-passed false true s v e = absurd cc
+tests-passed false false true accepted e = absurd cc
 tests-passed false false false accepted e = record { buffers = refl; short = refl; file = refl; known = refl }
-tests-passed false false s (refused f i) e = absurd (omega (arith, e, (numbered f).0))
+tests-passed false false s (refused f i) e = absurd cc
 
 module _ (file turns : List ℕ) (b : Buffers) where
-  pub passed : answer_by file turns (misfit b) ≡ 0 → Cleared (misfit b) (ltb turns_limit (length turns)) (check file) (names_nobody (workers_of (plan_of file)) turns)
+  pub passed : verdict_for file turns (misfit b) ≡ accepted → Cleared (misfit b) (ltb turns_limit (length turns)) (check file) (names_nobody (workers_of (plan_of file)) turns)
   passed = tests-passed (misfit b) (ltb turns_limit (length turns)) (names_nobody (workers_of (plan_of file)) turns) (check file)
 
-  pub returned-code : (run file turns b).returned ≡ answer_by file turns (misfit b)
+  pub returned-code : (run file turns b).returned ≡ code_of (verdict_for file turns (misfit b))
   unfolding run run_verdict
   returned-code = go (run_verdict file turns b)
     where
@@ -72,18 +92,20 @@ module _ (file turns : List ℕ) (b : Buffers) where
       alike : (other : Buffers) → LentAlike (plan_of file) b other → RepliedAlike b other (record { returned = r; buffers = after }) (run file turns other)
       alike other lent = subst⁻¹ (λ (o : Reply). RepliedAlike b other o (run file turns other)) same (calls-alike file turns b other lent)
 
-  pub refusal : (r : ℕ) → r ≡ answer_by file turns (misfit b) → (r ≡ 0 → ⊥) → ◌≡◌ {A = Reply} (record { returned = r; buffers = b }) (run file turns b)
+  pub refusal : (f : Refusal) (i : ℕ) → refused f i ≡ verdict_for file turns (misfit b)
+      → ◌≡◌ {A = Reply} (record { returned = code_of (refused f i); buffers = b }) (run file turns b)
   unfolding run run_verdict
-  refusal r e h = go (run_verdict file turns b) e
-    where
-      go : (v : Verdict) → r ≡ code_of v → ◌≡◌ {A = Reply} (record { returned = r; buffers = b }) (reply_of v (played_from (plan_of file) b.memory turns) b)
-      go accepted e = absurd (h e)
-      go (refused f i) e = ap (λ (k : ℕ). record { returned = k; buffers = b }) e
+  refusal f i e = ap (λ (v : Verdict). reply_of v (played_from (plan_of file) b.memory turns) b) e
 
-  pub acceptance : (after : Buffers) → 0 ≡ answer_by file turns (misfit b) → after ≡ buffers_of (played_from (plan_of file) b.memory turns)
+  pub refused-ran : (e : Refused) → refused_as e ≡ verdict_for file turns (misfit b) → (r : ℕ) → r ≡ code_of (refused_as e) → Ran file turns b r b
+  refused-ran e bad r same =
+      ran r b (ap (λ (k : ℕ). record { returned = k; buffers = b }) same ∙ refusal (refusal_of e.refusal) e.index bad)
+      (λ z. absurd (omega (arith, same, z, (numbered (refusal_of e.refusal)).0)))
+
+  pub acceptance : (after : Buffers) → accepted ≡ verdict_for file turns (misfit b) → after ≡ buffers_of (played_from (plan_of file) b.memory turns)
       → ◌≡◌ {A = Reply} (record { returned = 0; buffers = after }) (run file turns b)
   unfolding run run_verdict
-  acceptance after z e = go (run_verdict file turns b) (none-refused (run_verdict file turns b) (sym z))
+  acceptance after z e = go (run_verdict file turns b) (sym z)
     where
       go : (v : Verdict) → v ≡ accepted → ◌≡◌ {A = Reply} (record { returned = 0; buffers = after }) (reply_of v (played_from (plan_of file) b.memory turns) b)
       go v ok =

@@ -1,9 +1,12 @@
 -- Many plans in one call: what one plan of it takes and leaves, and what the call ensures.
-use Rattle.std.specs.Prelude.{ℕ, ◌-◌, ◌*◌, ◌/◌, ◌%◌, ◌<◌, Bool, true, false, cond, ◌≡◌, List, ltb, length, get_or, replicate}
+use Rattle.std.specs.Prelude.{ℕ, ◌-◌, ◌*◌, ◌/◌, ◌%◌, ◌<◌, Bool, true, false, cond, ◌≡◌, List, ltb, length, get_or, replicate, Result, Ok, Err}
 use Rattle.protocol.specs.Format.{workers_limit, plan_of}
 use Rattle.protocol.specs.Calls.{Buffers, work_length}
 use Rattle.protocol.specs.Batch.{Batch, BatchReply, file_at, parts_of, answer_of, separate, run_plans, run_all}
 use Rattle.protocol.specs.Demands.{EachLeft, UnnamedKept, BatchLentAlike, BatchRepliedAlike}
+use Rattle.protocol.specs.Refusals.{number_of}
+use Rattle.plan.specs.Answer.{refusal_of}
+use Rattle.plan.specs.declared.answer.Refused.{Refused}
 use Rattle.engine.specs.Turning.{stretch, cycle_turns}
 
 abbrev pub batch : List ℕ → List ℕ → List ℕ → List ℕ → List ℕ → Batch
@@ -17,6 +20,11 @@ turn_at i = cond (ltb i cycle_turns) (i % workers_limit) ((i - cycle_turns) / st
 pub record Stretched (turns : List ℕ) : Type 0 where
   pub size : length turns ≡ 2 * cycle_turns
   pub each : (i : ℕ) → i < length turns → get_or turns i 0 ≡ turn_at i
+
+-- a plan's byte: 0, or the number of its refusal
+abbrev pub answer_for : Result Unit Refused → ℕ
+answer_for (Ok x) = 0
+answer_for (Err e) = number_of (refusal_of e.refusal)
 
 -- what one plan leaves is what its separate call leaves, but for work, which a refused one does not touch
 pub record RanAlone (file : List ℕ) (before : Buffers) (answer : ℕ) (memory log report work : List ℕ) : Type 0 where

@@ -1,20 +1,19 @@
 // Plan after plan, each to its end.
-ghost use Rattle.std.specs.Prelude.{◌≡◌, cond, length, replicate, ◌*◌, ◌<◌};
+ghost use Rattle.std.specs.Prelude.{◌≡◌, length, ◌*◌, ◌<◌};
 ghost use Rattle.protocol.specs.Calls.{work_length};
 ghost use Rattle.engine.specs.Turning.{cycle_turns};
 ghost use Rattle.protocol.specs.WellFormed.{Fitting, EvenlyLent};
 ghost use Rattle.tampermauve.specs.Run.{lent};
-ghost use Rattle.tampermauve.specs.All.{batch, turn_at, Stretched, RanAlone, RanPlans};
+ghost use Rattle.tampermauve.specs.All.{batch, turn_at, Stretched, answer_for, RanAlone, RanPlans};
 
 use crate::perform::perform;
-use admission::ACCEPTED;
 use admission::batch::LENGTH_BYTES;
 use engine::onward::{CYCLES, STRETCH};
 use format::limits::WORKERS_LIMIT;
 use journal::log::LOG_LENGTH;
 use journal::report::REPORT_LENGTH;
 use pages::MEMORY_LENGTH;
-use plan::answer::code;
+use plan::answer::Refused;
 use plan::check::check;
 use words::long_at;
 
@@ -24,23 +23,22 @@ fn turn_at(i: usize) -> u8
     ensures { result ≡ turn_at i }
 {
     if i < CYCLES {
-        return (i % WORKERS_LIMIT) as u8;
+        (i % WORKERS_LIMIT) as u8
+    } else {
+        ((i - CYCLES) / STRETCH) as u8
     }
-    ((i - CYCLES) / STRETCH) as u8
 }
 
 fn fill_stretches(turns: &mut [u8])
     requires { length turns.old ≡ 2 * cycle_turns }
     ensures { Stretched turns.new }
 {
-    let mut i = 0;
-    while i < turns.len() {
-        turns[i] = turn_at(i);
-        i += 1;
+    for (i, turn) in turns.iter_mut().enumerate() {
+        *turn = turn_at(i);
     }
 }
 
-// Runs one plan to its end. Its answer: 0, or the number of its refusal without the index. A refused plan changes no byte.
+// Runs one plan to its end. A refused plan changes no byte.
 fn run_plan(
     file: &[u8],
     turns: &[u8],
@@ -48,20 +46,24 @@ fn run_plan(
     log: &mut [u8],
     report: &mut [u8],
     work: &mut [u8],
-) -> u8
+) -> Result<(), Refused>
     requires { Stretched turns.now × Fitting (lent memory.old log.old report.old work.old) }
-    ensures { RanAlone file.now (lent memory.old log.old report.old work.old) result
+    ensures { RanAlone file.now (lent memory.old log.old report.old work.old) (answer_for result)
         memory.new log.new report.new work.new }
 {
-    let checked = check(file);
-    let verdict = checked.verdict;
-    let layout = checked.layout;
-    let code = code(verdict);
-    if code != ACCEPTED {
-        return (code % 256) as u8;
+    let layout = check(file)?;
+    perform(file, &layout, turns, true, memory, log, report, work);
+    Ok(())
+}
+
+// A plan's byte: 0, or the number of its refusal without the index.
+fn answer(ran: Result<(), Refused>) -> u8
+    ensures { result ≡ answer_for ran }
+{
+    match ran {
+        Ok(()) => 0,
+        Err(refused) => refused.refusal as u8,
     }
-    perform(file, layout, turns, true, memory, log, report, work);
-    0
 }
 
 // Runs all plans, in order. Whether one of them was accepted, so that work is to be cleared.
@@ -85,8 +87,7 @@ pub fn run_plans(
     fill_stretches(&mut turns);
     let mut accepted = false;
     let mut at = 0;
-    let mut k = 0;
-    while k < count {
+    for k in 0..count {
         let end = at + long_at(lengths, LENGTH_BYTES * k) as usize;
         let memory = MEMORY_LENGTH * k;
         let log = LOG_LENGTH * k;
@@ -94,7 +95,7 @@ pub fn run_plans(
         let memory_end = memory + MEMORY_LENGTH;
         let log_end = log + LOG_LENGTH;
         let report_end = report + REPORT_LENGTH;
-        let answer = run_plan(
+        let ran = run_plan(
             &files[at..end],
             &turns,
             &mut memories[memory..memory_end],
@@ -102,20 +103,9 @@ pub fn run_plans(
             &mut reports[report..report_end],
             work,
         );
-        answers[k] = answer;
-        accepted = accepted | (answer == 0);
+        answers[k] = answer(ran);
+        accepted |= ran.is_ok();
         at = end;
-        k += 1;
     }
     accepted
-}
-
-// Clears the bytes, where that is wanted.
-pub fn clear_if(wanted: bool, bytes: &mut [u8])
-    ensures { bytes.new ≡ cond wanted (replicate (length bytes.old) 0) bytes.old }
-{
-    if wanted {
-        words::clear(bytes);
-        return;
-    }
 }

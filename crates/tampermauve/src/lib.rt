@@ -9,7 +9,7 @@ ghost use Rattle.protocol.specs.Calls.{check_code};
 ghost use Rattle.tampermauve.specs.Run.{lent, Ran};
 ghost use Rattle.tampermauve.specs.All.{batch, RanAll};
 
-use crate::each::{clear_if, run_plans};
+use crate::each::run_plans;
 use crate::perform::perform;
 use admission::ACCEPTED;
 use admission::batch::{BatchLengths, admit_batch};
@@ -21,9 +21,7 @@ use plan::check::check;
 pub fn tampermauve_check(file: &[u8]) -> u32
     ensures { result ≡ check_code file.now }
 {
-    let checked = check(file);
-    let verdict = checked.verdict;
-    code(verdict)
+    code(&check(file))
 }
 
 // Plays the turns. ACCEPTED for a run that is accepted, else as tampermauve_check, with no byte changed.
@@ -46,12 +44,11 @@ pub fn tampermauve_run(
         work: work.len(),
     };
     let admitted = admit(file, turns, lengths);
-    if admitted.code != ACCEPTED {
-        return admitted.code;
-    }
-    let layout = admitted.layout;
+    let Ok(layout) = &admitted else {
+        return code(&admitted);
+    };
     perform(file, layout, turns, false, memory, log, report, work);
-    words::clear(work);
+    work.fill(0);
     ACCEPTED
 }
 
@@ -79,13 +76,14 @@ pub fn tampermauve_run_all(
         answers: answers.len(),
         work: work.len(),
     };
-    let code = admit_batch(count, lengths, lent);
-    if code != ACCEPTED {
-        return code;
+    if let Err(refusal) = admit_batch(count, lengths, lent) {
+        return u32::from(refusal);
     }
     let accepted = run_plans(
         count, files, lengths, memories, logs, reports, answers, work,
     );
-    clear_if(accepted, work);
+    if accepted {
+        work.fill(0);
+    }
     ACCEPTED
 }

@@ -8,7 +8,7 @@ use plan::check::Layout;
 // Plays the turns of an accepted file, or runs it to its end, and leaves log and report. What is in work does not matter before or after.
 pub fn perform(
     file: &[u8],
-    layout: Layout,
+    layout: &Layout,
     turns: &[u8],
     whole: bool,
     memory: &mut [u8],
@@ -16,15 +16,21 @@ pub fn perform(
     report: &mut [u8],
     work: &mut [u8],
 )
-    requires { Performing file.now layout turns.now whole memory.old log.old report.old work.old }
+    requires { Performing file.now layout.now turns.now whole memory.old log.old report.old work.old }
     ensures { Performed file.now turns.now whole memory.old memory.new log.new report.new }
 {
     let workers = layout.workers;
-    let sizes = layout.sizes;
-    let firsts = layout.firsts;
-    let first = layout.fates;
     let played = play(
-        file, workers, &sizes, &firsts, first, turns, whole, memory, log, work,
+        file,
+        workers,
+        &layout.sizes,
+        &layout.firsts,
+        layout.fates,
+        turns,
+        whole,
+        memory,
+        log,
+        work,
     );
     let t = played.schedule;
     let fates = played.fates;

@@ -1,12 +1,10 @@
 -- `run_plans`: what stands before plan k, one plan more.
-use native.Mathlib.Omega.{arith}
-use mathlib.Core.Path.{refl}
-use Rattle.tampermauve.proofs.PlanByPlan.{all-sized, none_yet, goes_on, file-within}
+use Rattle.std.proofs.Common.{arith, refl, sym, ◌∙◌}
+use Rattle.tampermauve.proofs.PlanByPlan.{all-sized, none_yet, goes_on, file-within, zero-if-ok}
 use Rattle.tampermauve.proofs.each.run_plans.Goals as goal
 
 pub loop-k-init : goal.loop-k-init
-loop-k-init c =
-    none_yet c.requires.evenly_lent c.requires.work_len c.fill_stretches.ensures
+loop-k-init c = none_yet c.requires.evenly_lent c.requires.work_len c.fill_stretches.ensures
 
 pub slice_bounds-run_plan-end : goal.slice_bounds-run_plan-end
 slice_bounds-run_plan-end c =
@@ -14,7 +12,6 @@ slice_bounds-run_plan-end c =
 
 pub loop-k-preserved : goal.loop-k-preserved
 loop-k-preserved c =
-    let taken = c.loop-k-test.true in
-    let long = c.long_at in
-    goes_on (all-sized c.requires.evenly_lent c.requires.work_len) c.loop-k.invariant taken c.run_plan-answer.ensures refl long.ensures (omega arith)
-    (omega (arith, c.run_plan-answer.auto, c.loop-k.invariant.sized.work))
+    rw (c.is_ok-accepted.ensures.value ∙ sym (zero-if-ok c.run_plan-ran.result), c.answer.ensures)
+    (goes_on (all-sized c.requires.evenly_lent c.requires.work_len) c.loop-k.invariant c.loop-k-test.true c.run_plan-ran.ensures refl c.long_at.ensures (omega arith)
+    (omega (arith, c.run_plan-ran.auto, c.loop-k.invariant.sized.work)))
