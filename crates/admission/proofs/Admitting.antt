@@ -2,11 +2,12 @@
 use Rattle.std.proofs.Common.{arith, ℕ, ◌≤◌, Bool, true, false, ◌≡◌, refl, sym, ap, ◌∙◌, List, [], ◌∷◌, length, get_or, leb, ltb, All, Contains}
 use borrow.Author.Tests.{leb-true, leb-false, le-leb, lt-leb}
 use Rattle.protocol.specs.Format.{plan_of, records}
-use Rattle.protocol.specs.Refusals.{accepted, refuse_if, ruled, holds, bad_turn, check, any_of}
+use Rattle.protocol.specs.Refusals.{accepted, refuse_if, ruled, holds, bad_turn, check, any_of, Verdict, refused, code_of}
 use Rattle.protocol.specs.Turns.{workers_of}
 use Rattle.protocol.specs.Calls.{turns_limit, names_nobody}
 use Rattle.protocol.proofs.Accepted.{accepted-file, workers-of}
 use Rattle.protocol.proofs.Covered.{any-there, any_none}
+use Rattle.protocol.proofs.Numbered.{numbered}
 use Rattle.protocol.proofs.Lists.{get_or-any}
 use Rattle.plan.specs.Checking.{LaidOut}
 use Rattle.plan.specs.declared.check.Layout.{Layout}
@@ -40,3 +41,8 @@ pub by-turns : (file turns : List ℕ) (l : Lengths) {layout : Layout} {s : Bool
 by-turns file turns l {layout} {s} fit few ok laid named =
     let stray : names_nobody (workers_of (plan_of file)) turns ≡ s = ap (λ (n : ℕ). names_nobody n turns) (sym (plan-workers file laid (sym ok))) ∙ named in
     rw (fit, few, sym ok, stray)
+
+-- the number 0 is no refusal's
+pub none-refused : (v : Verdict) → code_of v ≡ 0 → v ≡ accepted
+none-refused accepted e = refl
+none-refused (refused f i) e = absurd (omega (arith, e, (numbered f).0))

@@ -16,9 +16,8 @@ use Rattle.protocol.proofs.Lists.{length-count_from, get_or-count_from}
 use Rattle.protocol.proofs.Cycles.{length-cycles}
 use Rattle.protocol.proofs.Prefix.{Together}
 use Rattle.protocol.proofs.Accepted.{Accepted, accepted-file, workers-of}
-use Rattle.plan.specs.Answer.{verdict_of}
+use Rattle.std.specs.Prelude.{Ok}
 use Rattle.plan.specs.Checking.{CheckedAs}
-use Rattle.plan.specs.declared.check.Checked.{Checked}
 use Rattle.plan.specs.declared.check.Layout.{Layout}
 use Rattle.listed.specs.Listed.{turn_count, ending_turns}
 
@@ -80,14 +79,14 @@ pub record Measured (file : List ℕ) (l : Layout) : Type 0 where
   pub counted : get_or l.firsts 0 0 + step_count (plan_of file) ≡ get_or l.firsts l.workers 0
   pub few : step_count (plan_of file) ≤ steps_limit * l.workers
 
-pub measured : (file : List ℕ) (r : Checked) → CheckedAs file r → verdict_of r.verdict ≡ accepted → Measured file r.layout
-measured file r checked e =
-    let ok = sym checked.verdict ∙ e in
-    let laid = checked.layout e in
+pub measured : (file : List ℕ) (l : Layout) → CheckedAs file (Ok l) → Measured file l
+measured file l checked =
+    let ok = sym checked.verdict in
+    let laid = checked.layout in
     let n = laid.workers in
     let most = few-workers file ok in
     let first = laid.firsts 0 (omega arith) in
-    let last = laid.firsts r.layout.workers (omega arith) ∙ ap (λ (w : ℕ). first_in (records file) w) n in
+    let last = laid.firsts l.workers (omega arith) ∙ ap (λ (w : ℕ). first_in (records file) w) n in
     record {
       ok = ok;
       workers = n;

@@ -6,7 +6,6 @@ ghost use Rattle.protocol.specs.Listing.{turns_by};
 ghost use Rattle.listed.specs.Listed.{turn_count, ending_turns};
 
 use format::limits::{STEPS_LIMIT, WORKERS_LIMIT};
-use plan::answer::Verdict;
 use plan::check::check;
 
 // The most turns: those of WORKERS_LIMIT workers with STEPS_LIMIT steps each.
@@ -30,10 +29,8 @@ fn fill(turns: &mut [u8], count: usize, n: usize)
     ensures turns_len_unchanged { length turns.new ≡ length turns.old }
     ensures by_index { (i : ℕ) → i < count → get_or turns.new i 0 ≡ i % n }
 {
-    let mut i = 0;
-    while i < count {
+    for i in 0..count {
         turns[i] = (i % n) as u8;
-        i += 1;
     }
 }
 
@@ -44,14 +41,11 @@ pub fn write_turns(file: &[u8], turns: &mut [u8]) -> usize
     ensures within { result ≤ ending_turns }
     ensures listed { take result turns.new ≡ turns_by (protocol.check file.now) file.now }
 {
-    let checked = check(file);
-    let verdict = checked.verdict;
-    let Verdict::Accepted = verdict else {
+    let Ok(layout) = check(file) else {
         return 0;
     };
-    let n = checked.layout.workers as usize;
-    let firsts = checked.layout.firsts;
-    let count = turn_count(firsts[n] - firsts[0], n);
+    let n = layout.workers as usize;
+    let count = turn_count(layout.firsts[n] - layout.firsts[0], n);
     fill(turns, count, n);
     count
 }

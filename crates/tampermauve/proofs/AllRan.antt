@@ -14,7 +14,7 @@ use Rattle.protocol.proofs.Batches.{each_left}
 use Rattle.protocol.proofs.UnnamedBytes.{each_keeps, batches-alike}
 use Rattle.admission.specs.Plans.{sizes_of, batch_code}
 use Rattle.tampermauve.specs.All.{batch, RanPlans, RanAll}
-use Rattle.tampermauve.proofs.Ran.{none-refused}
+use Rattle.admission.proofs.Admitting.{none-refused}
 
 module _ (count : ℕ) (files lengths : List ℕ) (b : Batch) where
   abbrev code : ℕ

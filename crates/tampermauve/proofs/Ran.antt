@@ -22,11 +22,7 @@ use Rattle.protocol.proofs.UnnamedBytes.{call-keeps, calls-alike}
 use Rattle.protocol.proofs.Numbered.{numbered}
 use Rattle.admission.specs.Run.{verdict_for}
 use Rattle.tampermauve.specs.Run.{Ran}
-
--- the number 0 is no refusal's
-pub none-refused : (v : Verdict) → code_of v ≡ 0 → v ≡ accepted
-none-refused accepted e = refl
-none-refused (refused f i) e = absurd (omega (arith, e, (numbered f).0))
+use Rattle.admission.proofs.Admitting.{none-refused}
 
 -- the index of a run's refusal is that of a record, or 0
 index-by : (m t s : Bool) (v : Verdict) (f : Refusal) (i : ℕ) → ((f : Refusal) (i : ℕ) → v ≡ refused f i → i ≤ records_limit) → verdict_by m t v s ≡ refused f i → i ≤ records_limit
