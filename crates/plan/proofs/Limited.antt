@@ -9,7 +9,7 @@ use lib.Dec.{ltb, eqb}
 use borrow.Author.Tests.{ne_eqb, ltb-false}
 use Rattle.protocol.specs.Ops.{op_plan_record, op_barrier_record, op_sleep_record, op_barrier}
 use Rattle.protocol.specs.Format as format
-use Rattle.protocol.specs.Format.{table, row_of, row_in, known}
+use Rattle.protocol.specs.Format.{row_of, row_in, known}
 use Rattle.protocol.specs.Refusals.{operands_outside}
 use Rattle.protocol.proofs.Bools.{or_right}
 use Rattle.protocol.proofs.Covered.{row-known}

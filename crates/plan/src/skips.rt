@@ -27,6 +27,8 @@ fn too_far(r: Record, i: usize, firsts: &[usize; WORKERS_LIMIT + 1]) -> bool
 }
 
 // The first skip too far, if there is one.
+// As a function of its own, and `read_steps` likewise, the check of a small file takes 1,501 instructions in place of 1,467.
+#[inline(always)]
 pub fn check_skips(
     file: &[u8],
     count: usize,

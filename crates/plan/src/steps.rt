@@ -3,7 +3,7 @@ ghost use Rattle.std.specs.Prelude.{◌≡◌, ℕ, ◌+◌, ◌*◌, ◌≤◌,
 ghost use Rattle.protocol.specs.Format.{record_length, workers_limit};
 ghost use Rattle.format.specs.Table.{limits_for};
 ghost use Rattle.plan.specs.Answer.{refusal_of, rule_as};
-ghost use Rattle.plan.specs.Stepping.{outside_of, refuses_worker, read_steps, no_step, kept_operand_rule, kept_rule, StepsSoFar, WorkersOpened, StretchRead, StepsRead};
+ghost use Rattle.plan.specs.Stepping.{outside_of, refuses_worker, read_steps, no_step, kept_operand_rule, kept_rule, StepsSoFar, StretchRead, StepsRead};
 
 use crate::answer::{Refusal, Refused};
 use crate::decode::{Record, decode};
@@ -134,6 +134,7 @@ fn read_stretch(
 }
 
 // Reads the records from `start` on, which are the steps, and notes where each worker's begin; from worker n on that is behind the last.
+#[inline(always)]
 pub fn read_steps(
     file: &[u8],
     count: usize,

@@ -14,7 +14,8 @@ code-requires c = λ f i e. run-index c.args.file.now c.args.turns.now _ f i (sy
 
 pub returns-in_default : goal.returns-in_default
 returns-in_default c =
-    refused-ran c.args.file.now c.args.turns.now (lent c.args.memory.now c.args.log.now c.args.report.now c.args.work.now) c.in_default.field-0 (sym (ap (λ a. verdict_of a) c.in_default.is) ∙ c.admit-admitted.ensures.verdict)
+    refused-ran c.args.file.now c.args.turns.now (lent c.args.memory.now c.args.log.now c.args.report.now c.args.work.now) c.in_default.field-0
+    (sym (ap (λ a. verdict_of a) c.in_default.is) ∙ c.admit-admitted.ensures.verdict)
     _ (c.code.ensures ∙ ap (λ a. code_of (verdict_of a)) c.in_default.is)
 
 pub perform-requires : goal.perform-requires

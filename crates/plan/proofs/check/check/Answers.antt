@@ -5,7 +5,8 @@ use Rattle.protocol.specs.Refusals.{wrong_length}
 use Rattle.protocol.proofs.Accepted.{length-right}
 use Rattle.plan.specs.Stepping.{StepsRead}
 use Rattle.plan.proofs.Readings.{unmarked-rule}
-use Rattle.plan.proofs.Checks.{FirstTaken, by_length, by_first, plan-rule, rules-begun, behind-first, behind-barriers, sleepers-coming, behind-sleepers, steps-so-far, laid_out, turned_down, turned_down_by}
+use Rattle.plan.proofs.Checks.{FirstTaken, by_length, by_first, plan-rule, rules-begun, behind-first, behind-barriers, sleepers-coming}
+use Rattle.plan.proofs.Checks.{behind-sleepers, steps-so-far, laid_out, turned_down, turned_down_by}
 use Rattle.plan.proofs.check.check.Goals as goal
 
 pub returns-then-bad_length : goal.returns-then-bad_length
