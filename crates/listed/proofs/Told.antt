@@ -1,11 +1,11 @@
 -- What is written is the listing, by the code, the log and the report that the run leaves. Callers want `refused-text`,
--- `accepted-text` and `written`.
-use Prim.Native.Nat.{ℕ, ◌+◌, ◌-◌, ◌/◌, ◌%◌, ◌≤◌}
+-- `accepted-text` and `listing-left`.
+use Prim.Native.Nat.{ℕ, ◌-◌, ◌/◌, ◌%◌, ◌≤◌}
 use native.Mathlib.Omega.{arith}
-use mathlib.Core.Path.{◌≡◌, refl, sym, ap, ◌∙◌, subst⁻¹}
-use mathlib.Core.List.{List, ◌++◌}
+use mathlib.Core.Path.{◌≡◌, refl, sym, ap, ap₂, ◌∙◌, subst⁻¹}
+use mathlib.Core.List.{List, [], ◌++◌}
 use lib.ListN.{length, get_or, drop, replicate}
-use lib.Seq.{sets-eq}
+use Rattle.std.proofs.lemmas.List.{take-append-drop}
 use Rattle.protocol.specs.Format.{Plan, plan_of}
 use Rattle.protocol.specs.Refusals.{number_of, Verdict, accepted, refused, code_of, check}
 use Rattle.protocol.specs.Rounds.{State}
@@ -22,7 +22,8 @@ use Rattle.words.specs.Bytes.{word_at}
 use Rattle.journal.specs.Offsets.{report_end, report_records, entries_limit}
 use Rattle.listed.specs.Listed.{listed_run, RanToEnd}
 use Rattle.admission.proofs.Admitting.{none-refused}
-use Rattle.text.specs.Text.{Wrote, entries_from, end_numbered, last_line}
+use Rattle.text.specs.declared.Text.{Text}
+use Rattle.text.specs.Text.{written, rest, Wrote, entries_from, end_numbered, last_line}
 use Rattle.listed.specs.Text.{WroteListing}
 use Rattle.text.proofs.Entries.{entries-back}
 
@@ -84,25 +85,28 @@ unfolding report_bytes
 accepted-text file {report = report} listed z =
     let ok = none-refused (check file) (sym listed.code ∙ z) in
     let s = listed_state (plan_of file) in
-    let logIs = listed.same_log z ∙ ap lent_log (run-played file ok) in
-    let reportIs = listed.same_report z ∙ ap report_bytes (run-played file ok) in
-    let first : get_or report report_end 0 ≡ end_number (end_of s) = ap (λ (l : List ℕ). get_or l 0 0) reportIs in
-    subst⁻¹ (λ (l : List ℕ). Told file l report) logIs
-    (subst⁻¹ (λ (l : List ℕ). Told file (lent_log s) l) reportIs (lines-back file ok (λ q. listed.ended z (first ∙ q))))
+    let same_log = listed.same_log z ∙ ap lent_log (run-played file ok) in
+    let same_report = listed.same_report z ∙ ap report_bytes (run-played file ok) in
+    let first : get_or report report_end 0 ≡ end_number (end_of s) = ap (λ (l : List ℕ). get_or l 0 0) same_report in
+    subst⁻¹ (λ (l : List ℕ). Told file l report) same_log
+    (subst⁻¹ (λ (l : List ℕ). Told file (lent_log s) l) same_report (lines-back file ok (λ q. listed.ended z (first ∙ q))))
 
--- the listing stands in front, and nothing else has changed
-pub written : (file : List ℕ) {code size : ℕ} {memory log report before after : List ℕ} → RanToEnd file code memory log report
-    → Wrote before 0 (listing file) after size
-    → size ≤ length before
-    → WroteListing file (record { code = code; length = size }) memory before after
-written file {size = size} {before = before} listed wrote fits =
-    let same : size ≡ length (listing file) = omega (arith, wrote.ends) in
-    let whole : 0 + length (listing file) ≡ size = omega arith in
+-- the listing stands in front of the slice, and nothing else has changed
+pub listing-left : (file : List ℕ) {code size : ℕ} {memory log report slice left : List ℕ} {before after : Text} → RanToEnd file code memory log report
+    → written before ≡ []
+    → rest before ≡ slice
+    → Wrote before (listing file) after
+    → size ≡ length (written after)
+    → left ≡ after.bytes.now
+    → WroteListing file (record { code = code; length = size }) memory slice left
+listing-left file {size = size} {slice = slice} {before = before} {after = after} listed nothing all wrote count last =
+    let lines : written after ≡ listing file = wrote.stands ∙ ap (λ (l : List ℕ). l ++ listing file) nothing in
+    let same : size ≡ length (listing file) = count ∙ ap length lines in
+    let behind : rest after ≡ drop size slice =
+    wrote.behind ∙ (ap (λ (l : List ℕ). drop (length (listing file)) l) all ∙ ap (λ (k : ℕ). drop k slice) (sym same)) in
     record {
       code = listed.code;
       same_memory = listed.same_memory;
       size = same;
-      text =
-          wrote.stands
-          ∙ (sets-eq (listing file) before 0 (omega arith) ∙ ap (λ (k : ℕ). listing file ++ drop k before) whole);
+      text = last ∙ (sym (take-append-drop after.end after.bytes.now) ∙ ap₂ ◌++◌ lines behind);
     }

@@ -14,7 +14,8 @@ use crate::run::run_listed;
 use admission::ACCEPTED;
 use journal::log::{ENTRIES_LIMIT, LOG_LENGTH};
 use journal::report::{REPORT_LENGTH, REPORT_RECORDS};
-use text::lines::{END_LINE_LIMIT, RECORD_LINE_LIMIT, write_end, write_log, write_refusal};
+use text::Text;
+use text::lines::{END_LINE_LIMIT, RECORD_LINE_LIMIT};
 use words::word_at;
 
 // Room for any listing: a line for each record, and the last line.
@@ -37,13 +38,15 @@ pub fn write_listing(file: &[u8], memory: &mut [u8], text: &mut [u8]) -> Written
     let mut log = [0u8; LOG_LENGTH];
     let mut report = [0u8; REPORT_LENGTH];
     let code = run_listed(file, memory, &mut log, &mut report);
+    let mut lines = Text::new(text);
     if code != ACCEPTED {
-        let length = write_refusal(code, text, 0);
+        lines.write_refusal(code);
+        let length = lines.len();
         return Written { code, length };
     }
-    let records = word_at(&report, REPORT_RECORDS) as usize;
-    let end = write_log(&log, records, text, 0);
-    let length = write_end(&report, text, end);
+    lines.write_log(&log, usize::from(word_at(&report, REPORT_RECORDS)));
+    lines.write_end(&report);
+    let length = lines.len();
     Written { code, length }
 }
 
@@ -54,8 +57,7 @@ pub fn list(rt: &impl Print, file: &[u8], memory: &mut [u8]) -> u32
     ensures same_memory { result ≡ 0 → memory.new ≡ (listed_run file.now).memory }
 {
     let mut text = [0u8; TEXT_ROOM];
-    let written = write_listing(file, memory, &mut text);
-    let length = written.length;
-    let _printed = rt.write_all(&text[..length]).is_ok();
-    written.code
+    let Written { code, length } = write_listing(file, memory, &mut text);
+    let _ = rt.write_all(&text[..length]);
+    code
 }

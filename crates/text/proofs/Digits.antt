@@ -1,4 +1,4 @@
--- The digits of a number. Callers want `last-digit`, `more-digits` and `few-digits`.
+-- The digits of a number. Callers want `last-digit`, `more-digits` and the lengths.
 use Prim.Native.Nat.{ℕ, zero, suc, ◌+◌, ◌/◌, ◌%◌, ◌^◌, ◌<◌, ◌≤◌}
 use native.Mathlib.Nat.{pow-suc}
 use native.Mathlib.Decide.{dec_lt}
@@ -35,12 +35,20 @@ unfolding decimal
 more-digits n h =
     split_off n h ∙ ap (λ (ds : List ℕ). ds ++ ((48 + n % 10) ∷ [])) (enough n (suc (n / 10)) (n / 10) (omega arith) (omega arith))
 
+pub length_more : (n : ℕ) → 10 ≤ n → length (decimal n) ≡ length (decimal (n / 10)) + 1
+length_more n h = ap length (more-digits n h) ∙ length-append (decimal (n / 10)) ((48 + n % 10) ∷ [])
+
+pub some-digit : (n : ℕ) → 0 < length (decimal n)
+some-digit n =
+    elim (dec_lt n 10) [
+      | yes s ↦ rw (last-digit n s) (omega arith)
+      | no s ↦ omega (arith, length_more n (omega arith))
+    ]
+
 pub few-digits : (k n : ℕ) → n < 10 ^ suc k → length (decimal n) ≤ suc k
 few-digits zero n h = rw (last-digit n (omega arith)) (omega arith)
 few-digits (suc k) n h =
     elim (dec_lt n 10) [
       | yes s ↦ rw (last-digit n s) (omega arith)
-      | no s ↦
-          rw (more-digits n (omega arith), length-append)
-          (omega (arith, few-digits k (n / 10) (omega (arith, pow-suc 10 (suc k)))))
+      | no s ↦ omega (arith, length_more n (omega arith), few-digits k (n / 10) (omega (arith, pow-suc 10 (suc k))))
     ]

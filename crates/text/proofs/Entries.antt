@@ -1,8 +1,8 @@
--- A log's bytes, read back: the records are those that were written. Callers want `entries-back` and `next-entry`.
-use Prim.Native.Nat.{ℕ, zero, suc, ◌+◌, ◌-◌, ◌*◌, ◌<◌}
+-- A log's bytes, read back: the records are those that were written. Callers want `entries-back` and `log_more`.
+use Prim.Native.Nat.{ℕ, zero, suc, ◌+◌, ◌*◌}
 use native.Mathlib.Omega.{arith}
-use mathlib.Core.Path.{◌≡◌, refl, ap, ◌∙◌}
-use mathlib.Core.List.{List, [], ◌∷◌, ◌++◌}
+use mathlib.Core.Path.{◌≡◌, refl, sym, ap, ◌∙◌}
+use mathlib.Core.List.{List, [], ◌∷◌, ◌++◌, append-nil, append_assoc}
 use lib.ListN.{length, get_or}
 use lib.Seq.{get_or-append-add}
 use Rattle.protocol.specs.Rounds.{Entry}
@@ -41,12 +41,26 @@ entries-back (e ∷ es) rest (more x h w) =
     (word_bytes e.round (omega arith))
     ∙ ap (λ (l : List Entry). e ∷ l) (entries-behind e (log_bytes es ++ rest) (length es) 0 ∙ entries-back es rest w)
 
--- the lines of the records from index i on
-pub next-entry : (log : List ℕ) (records i : ℕ) → i < records
-    → log_lines (entries_from log (records - i) i) ≡ record_line (entry_at log (entry_length * i)) ++ log_lines (entries_from log (records - (i + 1)) (i + 1))
-unfolding entries_from log_lines
-next-entry log records i h =
-    let more : records - i ≡ suc (records - (i + 1)) = omega arith in
-    let next : suc i ≡ i + 1 = omega arith in
-    ap (λ (k : ℕ). log_lines (entries_from log k i)) more
-    ∙ ap (λ (j : ℕ). record_line (entry_at log (entry_length * i)) ++ log_lines (entries_from log (records - (i + 1)) j)) next
+-- the lines of one record more
+
+entries_more : (log : List ℕ) (k i : ℕ) → entries_from log (suc k) i ≡ entries_from log k i ++ (entry_at log (entry_length * (i + k)) ∷ [])
+unfolding entries_from
+entries_more log zero i = let same : i ≡ i + 0 = omega arith in ap (λ (j : ℕ). entry_at log (entry_length * j) ∷ []) same
+entries_more log (suc k) i =
+    let next : suc i + k ≡ i + suc k = omega arith in
+    ap (λ (es : List Entry). entry_at log (entry_length * i) ∷ es)
+    (entries_more log k (suc i) ∙ ap (λ (j : ℕ). entries_from log k (suc i) ++ (entry_at log (entry_length * j) ∷ [])) next)
+
+lines_more : (es : List Entry) (e : Entry) → log_lines (es ++ (e ∷ [])) ≡ log_lines es ++ record_line e
+unfolding log_lines
+lines_more [] e = append-nil (record_line e)
+lines_more (first ∷ es) e =
+    ap (λ (l : List ℕ). record_line first ++ l) (lines_more es e) ∙ sym (append_assoc (record_line first) (log_lines es) (record_line e))
+
+pub log_more : (log : List ℕ) (i : ℕ) → log_lines (entries_from log i 0) ++ record_line (entry_at log (entry_length * i)) ≡ log_lines (entries_from log (i + 1) 0)
+log_more log i =
+    let more : suc i ≡ i + 1 = omega arith in
+    let last : 0 + i ≡ i = omega arith in
+    sym (lines_more (entries_from log i 0) (entry_at log (entry_length * i)))
+    ∙ ap log_lines (sym (entries_more log i 0 ∙ ap (λ (j : ℕ). entries_from log i 0 ++ (entry_at log (entry_length * j) ∷ [])) last))
+    ∙ ap (λ (k : ℕ). log_lines (entries_from log k 0)) more

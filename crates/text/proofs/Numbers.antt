@@ -1,35 +1,24 @@
--- Lines of numbers: how one goes on, and how long it is at most. Callers want `number-left`,
--- `separator-left`, the lengths, `record-line` and `end_line-line`.
-use Prim.Native.Nat.{ℕ, suc, ◌+◌, ◌^◌, ◌<◌, ◌≤◌}
-use native.Mathlib.Numerals.{add-one}
-use native.Mathlib.Omega.{arith}
-use mathlib.Core.Path.{◌≡◌, sym, ap, ◌∙◌}
-use mathlib.Core.List.{List, [], ◌∷◌, ◌++◌, append_assoc}
-use lib.ListN.{length, get_or, drop, length-append}
-use lib.Seq.{drop-cons}
+-- Lines of numbers: how one goes on, and how long it is at most.
+use Rattle.std.proofs.Common.{◌≡◌, ℕ, suc, ◌+◌, ◌^◌, ◌<◌, ◌≤◌, List, [], ◌∷◌, ◌++◌, length, get_or, drop, ap, ◌∙◌, arith, length-append}
+use Rattle.std.proofs.lemmas.List.{append_assoc, at_drop_more}
 use Rattle.protocol.specs.Rounds.{Entry}
 use Rattle.protocol.specs.Report.{End}
-use Rattle.protocol.specs.Listing.{decimal, space, separator, line, record_line, end_word, end_line}
-use Rattle.text.specs.Text.{record_line_limit}
-use Rattle.text.proofs.Writing.{Remains, left_as}
+use Rattle.protocol.specs.Listing.{ascii, decimal, space, separator, line, record_line, end_word, end_line, refusal_line}
+use Rattle.words.specs.Bytes.{word_at}
+use Rattle.journal.specs.Offsets.{entry_round, entry_worker, entry_op, entry_number, entry_outcome}
+use Rattle.text.specs.Text.{record_line_limit, entry_at}
 use Rattle.text.proofs.Digits.{few-digits}
 
-module _ {before : List ℕ} {at : ℕ} {whole text : List ℕ} {end : ℕ} (ns : List ℕ) (i : ℕ) where
-  -- a line from its number i on is left to write
-  pub number-left : Remains before at whole text end (line (drop i ns)) → i < length ns
-      → Remains before at whole text end (decimal (get_or ns i 0) ++ (separator (drop (i + 1) ns) ∷ line (drop (i + 1) ns)))
-  unfolding line
-  number-left left h = left_as left (rw add-one (ap line (drop-cons ns i 0 h)))
-
-  -- what stands behind its number i, and the numbers behind that
-  pub separator-left : (b : ℕ) → Remains before at whole text end (separator (drop (i + 1) ns) ∷ line (drop (i + 1) ns)) → b ≡ separator (drop (i + 1) ns)
-      → Remains before at whole text end (b ∷ line (drop (i + 1) ns))
-  separator-left b left e = left_as left (ap (λ (x : ℕ). x ∷ line (drop (i + 1) ns)) (sym e))
+-- a line from its number i on
+pub next-number : (ns : List ℕ) (i : ℕ) → i < length ns
+    → line (drop i ns) ≡ decimal (get_or ns i 0) ++ (separator (drop (i + 1) ns) ∷ line (drop (i + 1) ns))
+unfolding line
+next-number ns i h = at_drop_more line ns i 0 h
 
 -- how long a line is: one more number, of at most k + 1 digits
 one-longer : (k n : ℕ) (ns : List ℕ) (m : ℕ) → n < 10 ^ suc k → length (line ns) ≤ m → length (line (n ∷ ns)) ≤ suc (suc k) + m
 unfolding line
-one-longer k n ns m h l = rw length-append (omega (arith, few-digits k n h))
+one-longer k n ns m h l = omega (arith, length-append (decimal n) (separator ns ∷ line ns), few-digits k n h)
 
 none-long : length (line []) ≤ 0
 unfolding line
@@ -44,19 +33,30 @@ number-length n h = one-longer 19 n _ 0 (omega arith) none-long
 pub refusal-length : (n i : ℕ) → n < 256 → i < 16777216 → length (line (n ∷ i ∷ [])) ≤ 13
 refusal-length n i h l = one-longer 2 n _ 9 (omega arith) (one-longer 7 i _ 0 (omega arith) none-long)
 
-pub record-length : (r w o n c : ℕ) → r < 65536 → w < 256 → o < 256 → n < 256 → c < 256 → length (line (r ∷ w ∷ o ∷ n ∷ c ∷ [])) ≤ record_line_limit
-record-length r w o n c hr hw ho hn hc =
-    one-longer 4 r _ 16 (omega arith)
-    (one-longer 2 w _ 12 (omega arith)
-    (one-longer 2 o _ 8 (omega arith) (one-longer 2 n _ 4 (omega arith) (one-longer 2 c _ 0 (omega arith) none-long))))
-
 -- a record's line, by its numbers
 pub record-line : (e : Entry) (r w o n c : ℕ) → r ≡ e.round → w ≡ e.worker → o ≡ e.op → n ≡ e.number → c ≡ e.outcome
     → line (r ∷ w ∷ o ∷ n ∷ c ∷ []) ≡ record_line e
 unfolding record_line
 record-line e r w o n c hr hw ho hn hc = cc
 
+pub record-length : (log : List ℕ) (position : ℕ) → ((k : ℕ) → get_or log k 0 < 256) → length (record_line (entry_at log position)) ≤ record_line_limit
+unfolding record_line
+record-length log position byte =
+    let round : word_at log (position + entry_round) < 65536 = omega (arith, byte (position + entry_round), byte (position + entry_round + 1)) in
+    let worker = byte (position + entry_worker) in
+    let op = byte (position + entry_op) in
+    let number = byte (position + entry_number) in
+    let outcome = byte (position + entry_outcome) in
+    one-longer 4 _ _ 16 (omega (arith, round))
+    (one-longer 2 _ _ 12 (omega (arith, worker))
+    (one-longer 2 _ _ 8 (omega (arith, op)) (one-longer 2 _ _ 4 (omega (arith, number)) (one-longer 2 _ _ 0 (omega (arith, outcome)) none-long))))
+
 -- the last line, by its parts
 pub end_line-line : (e : End) (m n : ℕ) → m ≡ n → (end_word e ++ (space ∷ [])) ++ line (m ∷ []) ≡ end_line e n
 unfolding end_line
 end_line-line e m n h = append_assoc (end_word e) (space ∷ []) (line (m ∷ [])) ∙ ap (λ (k : ℕ). end_word e ++ (space ∷ line (k ∷ []))) h
+
+-- and a refusal's
+pub refusal_line-line : (number index n i : ℕ) → n ≡ number → i ≡ index → (ascii "refused" ++ (space ∷ [])) ++ line (n ∷ i ∷ []) ≡ refusal_line number index
+unfolding refusal_line
+refusal_line-line number index n i hn hi = cc

@@ -1,62 +1,70 @@
--- Writing piece by piece: what is written and what is left to write make up the whole. Callers start with `all_left`, go on with
--- `room-left` and `less-left` and end with `all-written`.
-use Prim.Native.Nat.{ℕ, suc, ◌+◌, ◌≤◌}
-use native.Mathlib.Omega.{arith}
-use mathlib.Core.Path.{◌≡◌, refl, sym, ap, ◌∙◌, subst}
-use mathlib.Core.List.{List, [], ◌∷◌, ◌++◌, append-nil}
-use lib.ListN.{length, set, length-append}
-use lib.Seq.{sets, length-sets}
-use Rattle.text.specs.Text.{Wrote}
+-- Writing piece by piece: two pieces, one behind the other, and the pieces of a line, which start with `all_left`, go on with `room-left`
+-- and `less-left` and end with `all-written`.
+use Rattle.std.proofs.Common.{◌≡◌, ℕ, ◌+◌, ◌-◌, ◌≤◌, List, [], ◌++◌, length, drop, refl, sym, ap, ◌∙◌, subst, arith, length-append, length-drop}
+use Rattle.std.proofs.lemmas.List.{append-nil, append_assoc, drop-drop}
+use Rattle.text.specs.declared.Text.{Text}
+use Rattle.text.specs.Text.{written, rest, Wrote, WroteWithin}
 
-sets-append : (a b l : List ℕ) (i : ℕ) → sets l i (a ++ b) ≡ sets (sets l i a) (i + length a) b
-sets-append [] b l i = let e : i ≡ i + 0 = omega arith in ap (λ (k : ℕ). sets l k b) e
-sets-append (x ∷ a) b l i =
-    let e : suc i + length a ≡ i + suc (length a) = omega arith in
-    sets-append a b (set l i x) (suc i) ∙ ap (λ (k : ℕ). sets (sets (set l i x) (suc i) a) k b) e
+-- what was written: nothing, a piece, and another behind it
 
--- with the rest written at the end, the text is what it was with the whole written at its place
-pub record Remains (before : List ℕ) (at : ℕ) (whole text : List ℕ) (end : ℕ) (rest : List ℕ) : Type 0 where
-  pub same : sets text end rest ≡ sets before at whole
-  pub ends : end + length rest ≡ at + length whole
+pub wrote-nothing : (t : Text) → Wrote t [] t
+wrote-nothing t = record { stands = sym (append-nil (written t)); behind = refl; same_slice = refl }
 
-pub all_left : (before : List ℕ) (at : ℕ) (whole rest : List ℕ) → whole ≡ rest → Remains before at whole before at rest
-all_left before at whole rest e = record { same = ap (λ (l : List ℕ). sets before at l) (sym e); ends = ap (λ (l : List ℕ). at + length l) (sym e) }
+pub wrote_as : {before after : Text} {bytes same : List ℕ} → Wrote before bytes after → bytes ≡ same → Wrote before same after
+wrote_as {before} {after} wrote e = subst (λ (l : List ℕ). Wrote before l after) e wrote
 
-module _ {before : List ℕ} {at : ℕ} {whole text : List ℕ} {end : ℕ} where
-  pub left_as : {rest same : List ℕ} → Remains before at whole text end rest → rest ≡ same → Remains before at whole text end same
-  left_as left e = subst (λ (l : List ℕ). Remains before at whole text end l) e left
+pub wrote-both : {before between after : Text} {a b : List ℕ} → Wrote before a between → Wrote between b after → Wrote before (a ++ b) after
+wrote-both {before} {a = a} {b = b} wrote then =
+    record {
+      stands = then.stands ∙ (ap (λ (l : List ℕ). l ++ b) wrote.stands ∙ append_assoc (written before) a b);
+      behind =
+          then.behind
+          ∙ (ap (λ (l : List ℕ). drop (length b) l) wrote.behind
+          ∙ (drop-drop (length b) (length a) (rest before) ∙ ap (λ (k : ℕ). drop k (rest before)) (sym (length-append a b))));
+      same_slice = then.same_slice ∙ wrote.same_slice;
+    }
 
-  pub less-left : {after : List ℕ} {next : ℕ} (a rest : List ℕ) → Remains before at whole text end (a ++ rest) → Wrote text end a after next
-      → Remains before at whole after next rest
-  less-left {next = next} a rest left wrote =
+-- how much room is left behind it
+pub room-behind : {before after : Text} {bytes : List ℕ} → Wrote before bytes after → length (rest after) ≡ length (rest before) - length bytes
+room-behind {before} {bytes = bytes} wrote = ap length wrote.behind ∙ length-drop (length bytes) (rest before)
+
+-- the same of pieces that are so long at most
+
+pub within_as : {limit : ℕ} {before after : Text} {bytes same : List ℕ} → WroteWithin limit before bytes after → bytes ≡ same
+    → WroteWithin limit before same after
+within_as {limit} {before} {after} wrote e = subst (λ (l : List ℕ). WroteWithin limit before l after) e wrote
+
+pub within-both : {m k : ℕ} {before between after : Text} {a b : List ℕ} → WroteWithin m before a between → Wrote between b after → length b ≤ k
+    → WroteWithin (m + k) before (a ++ b) after
+within-both {a = a} {b = b} first then short =
+    record { wrote = wrote-both first.wrote then; within = omega (arith, first.within, short, length-append a b) }
+
+pub room-within : {m k : ℕ} {before between : Text} {a : List ℕ} → WroteWithin m before a between → m + k ≤ length (rest before) → k ≤ length (rest between)
+room-within first room = omega (arith, room-behind first.wrote, first.within, room)
+
+-- a line, number by number: what is done of the whole is written, and some is left
+pub record Remains (before : Text) (whole : List ℕ) (now : Text) (left : List ℕ) : Type 0 where
+  pub done : List ℕ
+  pub wrote : Wrote before done now
+  pub parts : done ++ left ≡ whole
+
+pub all_left : (before : Text) (whole left : List ℕ) → left ≡ whole → Remains before whole before left
+all_left before whole left e =
+    record { done = []; wrote = wrote-nothing before; parts = e }
+
+module _ {before : Text} {whole : List ℕ} {now : Text} {left : List ℕ} (remains : Remains before whole now left) where
+  pub less-left : {after : Text} (a more : List ℕ) → left ≡ a ++ more → Wrote now a after → Remains before whole after more
+  less-left a more e wrote =
       record {
-        same =
-            ap (λ (l : List ℕ). sets l next rest) wrote.stands
-            ∙ (ap (λ (k : ℕ). sets (sets text end a) k rest) wrote.ends ∙ (sym (sets-append a rest text end) ∙ left.same));
-        ends = omega (arith, wrote.ends, left.ends, length-append a rest);
+        done = remains.done ++ a;
+        wrote = wrote-both remains.wrote wrote;
+        parts = append_assoc remains.done a more ∙ (ap (λ (l : List ℕ). remains.done ++ l) (sym e) ∙ remains.parts);
       }
 
-  pub all-written : Remains before at whole text end [] → Wrote before at whole text end
-  all-written left = record { stands = left.same; ends = omega (arith, left.ends) }
-
-  pub left-length : {rest : List ℕ} → Remains before at whole text end rest → length text ≡ length before
-  left-length {rest} left = sym (length-sets text end rest) ∙ (ap length left.same ∙ length-sets before at whole)
+  pub all-written : left ≡ [] → Wrote before whole now
+  all-written e = wrote_as remains.wrote (sym (append-nil remains.done) ∙ (ap (λ (l : List ℕ). remains.done ++ l) (sym e) ∙ remains.parts))
 
   -- what was room for the whole is room for the next piece
-  pub room-left : (a rest : List ℕ) → Remains before at whole text end (a ++ rest) → at + length whole ≤ length before → end + length a ≤ length text
-  room-left a rest left room = omega (arith, left.ends, left-length left, length-append a rest)
-
--- what was written, by itself and followed by another piece
-
-pub wrote-length : {before : List ℕ} {at : ℕ} {bytes after : List ℕ} {end : ℕ} → Wrote before at bytes after end → length after ≡ length before
-wrote-length {before} {at} {bytes} wrote = ap length wrote.stands ∙ length-sets before at bytes
-
-pub wrote_as : {before : List ℕ} {at : ℕ} {bytes same after : List ℕ} {end : ℕ} → Wrote before at bytes after end → bytes ≡ same
-    → Wrote before at same after end
-wrote_as {before} {at} {bytes} {same} {after} {end} wrote e = subst (λ (l : List ℕ). Wrote before at l after end) e wrote
-
-pub wrote-both : {before : List ℕ} {at : ℕ} {between after : List ℕ} {end next : ℕ} (a b : List ℕ) → Wrote before at a between end
-    → Wrote between end b after next
-    → Wrote before at (a ++ b) after next
-wrote-both a b wrote then =
-    all-written (less-left b [] (left_as (less-left a b (all_left _ _ (a ++ b) _ refl) wrote) (sym (append-nil b))) then)
+  pub room-left : (a more : List ℕ) → left ≡ a ++ more → length whole ≤ length (rest before) → length a ≤ length (rest now)
+  room-left a more e room =
+      omega (arith, room-behind remains.wrote, length-append remains.done left, ap length remains.parts, ap length e, length-append a more)

@@ -1,10 +1,10 @@
 -- What is written into a slice that is lent for a text, and the log and the report as the text's numbers.
-use Rattle.std.specs.Prelude.{ℕ, zero, suc, ◌+◌, ◌*◌, cond, ◌≡◌, List, [], ◌∷◌, eqb, length, get_or}
-use Rattle.std.proofs.lemmas.List.Edits.{sets}
+use Rattle.std.specs.Prelude.{ℕ, zero, suc, ◌+◌, ◌*◌, ◌≤◌, cond, ◌≡◌, List, [], ◌∷◌, ◌++◌, eqb, length, get_or, take, drop}
 use Rattle.protocol.specs.Rounds.{Entry}
 use Rattle.protocol.specs.Report.{entry_length, End, finished, stuck, end_number}
 use Rattle.protocol.specs.Listing.{end_line}
 use Rattle.words.specs.Bytes.{word_at}
+use Rattle.text.specs.declared.Text.{Text}
 use Rattle.journal.specs.Offsets.{entry_round, entry_worker, entry_op, entry_number, entry_outcome, report_end, report_moves}
 
 -- the most bytes of a record's line, of an end's word with a space, of the last line, and of a refusal's line
@@ -20,10 +20,23 @@ end_line_limit = 15
 abbrev pub refusal_line_limit : ℕ
 refusal_line_limit = 21
 
--- these bytes stand from a place on, all else is as it was, and the end is the place behind them
-pub record Wrote (before : List ℕ) (at : ℕ) (bytes after : List ℕ) (end : ℕ) : Type 0 where
-  pub stands : after ≡ sets before at bytes
-  pub ends : end ≡ at + length bytes
+-- what is written, and what stands behind it in the slice
+abbrev pub written : Text → List ℕ
+written t = take t.end t.bytes.now
+
+abbrev pub rest : Text → List ℕ
+rest t = drop t.end t.bytes.now
+
+-- these bytes stand behind what was written, all else is as it was, and the slice is the same
+pub record Wrote (before : Text) (bytes : List ℕ) (after : Text) : Type 0 where
+  pub stands : written after ≡ written before ++ bytes
+  pub behind : rest after ≡ drop (length bytes) (rest before)
+  pub same_slice : after.bytes.ghost_name ≡ before.bytes.ghost_name
+
+-- and they are so many at most
+pub record WroteWithin (limit : ℕ) (before : Text) (bytes : List ℕ) (after : Text) : Type 0 where
+  pub wrote : Wrote before bytes after
+  pub within : length bytes ≤ limit
 
 -- the record whose first byte stands at a position of a log
 abbrev pub entry_at : List ℕ → ℕ → Entry

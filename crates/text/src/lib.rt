@@ -1,73 +1,80 @@
-// Text in a lent slice: numbers, lines, and the lines of a listing. Each function writes from a place on and returns the place behind what it wrote.
+// Text in a lent slice: numbers, lines, and the lines of a listing.
 #![tactic(auto)]
 
 pub mod lines;
 
 ghost use Rattle.std.specs.Prelude.{◌≡◌, [], ◌∷◌, ◌+◌, ◌≤◌, ◌<◌, length, drop};
-ghost use Rattle.protocol.specs.Listing.{decimal, line};
-ghost use Rattle.protocol.specs.Listing.{separator as Listing·separator};
-ghost use Rattle.text.specs.Text.{Wrote};
+ghost use Rattle.protocol.specs.Listing.{decimal, line, separator as separator_before};
 
-// A byte as one of a line's numbers.
-pub fn wide(byte: u8) -> u64
-    ensures value { result ≡ byte }
-    ensures upper_bound { result < 256 }
-{
-    byte as u64
+// What is written stands at the start of the slice. `end` is the place behind it.
+#[derive(Drop)]
+pub struct Text<'a> {
+    bytes: &'a mut [u8],
+    end: usize,
+    ghost fits: { end ≤ length bytes.now },
 }
 
-fn write_byte(byte: u8, text: &mut [u8], at: usize) -> usize
-    requires { at + 1 ≤ length text.old }
-    ensures { Wrote text.old at (byte ∷ []) text.new result }
-{
-    text[at] = byte;
-    at + 1
-}
+impl<'a> Text<'a> {
+    ghost use Rattle.text.specs.Text.{written, rest, Wrote};
 
-pub fn write_bytes(bytes: &[u8], text: &mut [u8], at: usize) -> usize
-    requires { at + length bytes.now ≤ length text.old }
-    ensures { Wrote text.old at bytes.now text.new result }
-{
-    let mut end = at;
-    let mut i = 0;
-    while i < bytes.len() {
-        end = write_byte(bytes[i], text, end);
-        i += 1;
+    pub fn new(bytes: &'a mut [u8]) -> Text<'a>
+        ensures nothing_written { written result ≡ [] }
+        ensures all_left { rest result ≡ bytes.old }
+        ensures same_slice { result.bytes.ghost_name ≡ bytes.entry.ghost_name }
+    {
+        Text { bytes, end: 0 }
     }
-    end
-}
 
-// The digits of a number, the most significant first.
-fn write_decimal(n: u64, text: &mut [u8], at: usize) -> usize
-    requires { at + length (decimal n) ≤ length text.old }
-    ensures { Wrote text.old at (decimal n) text.new result }
-{
-    let digit = 48 + (n % 10) as u8;
-    if n < 10 {
-        return write_byte(digit, text, at);
+    // How many bytes are written.
+    pub fn len(&self) -> usize
+        ensures { result ≡ length (written self.now) }
+    {
+        self.end
     }
-    let end = write_decimal(n / 10, text, at);
-    write_byte(digit, text, end)
+
+    fn write_byte(&mut self, byte: u8)
+        requires { 0 < length (rest self.old) }
+        ensures { Wrote self.old (byte ∷ []) self.new }
+    {
+        self.bytes[self.end] = byte;
+        self.end += 1;
+    }
+
+    pub fn write_bytes(&mut self, bytes: &[u8])
+        requires { length bytes.now ≤ length (rest self.old) }
+        ensures { Wrote self.old bytes.now self.new }
+    {
+        let end = self.end + bytes.len();
+        self.bytes[self.end..end].copy_from_slice(bytes);
+        self.end = end;
+    }
+
+    // The digits of a number, the most significant first.
+    fn write_decimal(&mut self, n: u64)
+        requires { length (decimal n) ≤ length (rest self.old) }
+        ensures { Wrote self.old (decimal n) self.new }
+    {
+        if 10 <= n {
+            self.write_decimal(n / 10);
+        }
+        self.write_byte(b'0' + (n % 10) as u8);
+    }
+
+    // Numbers with a space between them and a newline behind the last.
+    pub fn write_line(&mut self, numbers: &[u64])
+        requires { length (line numbers.now) ≤ length (rest self.old) }
+        ensures { Wrote self.old (line numbers.now) self.new }
+    {
+        for (i, &number) in numbers.iter().enumerate() {
+            self.write_decimal(number);
+            self.write_byte(separator(numbers, i + 1));
+        }
+    }
 }
 
 // What stands behind a number, the next one being at an index.
 fn separator(numbers: &[u64], next: usize) -> u8
-    ensures { result ≡ Listing·separator (drop next numbers.now) }
+    ensures { result ≡ separator_before (drop next numbers.now) }
 {
     if next < numbers.len() { b' ' } else { b'\n' }
-}
-
-// Numbers with a space between them and a newline behind the last.
-pub fn write_line(numbers: &[u64], text: &mut [u8], at: usize) -> usize
-    requires { at + length (line numbers.now) ≤ length text.old }
-    ensures { Wrote text.old at (line numbers.now) text.new result }
-{
-    let mut end = at;
-    let mut next = 0;
-    while next < numbers.len() {
-        end = write_decimal(numbers[next], text, end);
-        next += 1;
-        end = write_byte(separator(numbers, next), text, end);
-    }
-    end
 }

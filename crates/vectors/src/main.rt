@@ -7,28 +7,11 @@ mod memory;
 ghost use Rattle.std.specs.Prelude.{◌≤◌, length};
 
 use crate::memory::memory_sum;
-use listed::input::read_full;
 use listed::list;
 use pages::MEMORY_LENGTH;
-use std::fs;
 use std::io::Read;
-use text::{write_bytes, write_line};
-use words::word;
-
-#[derive(Clone, Copy)]
-enum Number {
-    Read(u16),
-    CutShort,
-}
-
-fn read_number(from: &mut impl Read) -> Number {
-    let mut bytes = [0u8; 2];
-    let length = read_full(from, &mut bytes);
-    if length < 2 {
-        return Number::CutShort;
-    }
-    Number::Read(word(bytes[0], bytes[1]))
-}
+use std::{fs, io};
+use text::Text;
 
 // Room for a word with a space behind it, and any number.
 const LINE_ROOM: usize = 32;
@@ -38,16 +21,18 @@ const FILE_ROOM: usize = 65536;
 
 // What cannot be printed is left out.
 fn print(rt: &impl Print, text: &[u8]) {
-    let _printed = rt.write_all(text).is_ok();
+    let _ = rt.write_all(text);
 }
 
 fn print_line(rt: &impl Print, word: &[u8], number: u64)
     requires { length word.now ≤ 11 }
 {
-    let mut text = [0u8; LINE_ROOM];
-    let end = write_bytes(word, &mut text, 0);
-    let length = write_line(&[number], &mut text, end);
-    print(rt, &text[..length]);
+    let mut bytes = [0u8; LINE_ROOM];
+    let mut text = Text::new(&mut bytes);
+    text.write_bytes(word);
+    text.write_line(&[number]);
+    let length = text.len();
+    print(rt, &bytes[..length]);
 }
 
 fn list_plan(rt: &impl Print, file: &[u8]) {
@@ -58,44 +43,37 @@ fn list_plan(rt: &impl Print, file: &[u8]) {
     }
 }
 
-// Reads a plan file of just this length and lists it. Answers whether there was one.
-fn list_read(rt: &impl Print, from: &mut impl Read, number: u16, file: &mut [u8]) -> bool {
-    let length = read_full(from, file);
-    if length < file.len() {
-        return false;
-    }
-    print_line(rt, b"plan ", number as u64);
+fn read_number(from: &mut impl Read) -> io::Result<u16> {
+    let mut bytes = [0u8; 2];
+    from.read_exact(&mut bytes)?;
+    Ok(u16::from_le_bytes(bytes))
+}
+
+// Reads a plan file of just this length and lists it.
+fn list_read(
+    rt: &impl Print,
+    from: &mut impl Read,
+    number: u16,
+    file: &mut [u8],
+) -> io::Result<()> {
+    from.read_exact(file)?;
+    print_line(rt, b"plan ", u64::from(number));
     list_plan(rt, file);
-    true
+    Ok(())
 }
 
-fn list_next(rt: &impl Print, from: &mut impl Read, number: u16) -> bool {
-    let read = read_number(from);
-    let Number::Read(length) = read else {
-        return false;
-    };
+fn list_next(rt: &impl Print, from: &mut impl Read, number: u16) -> io::Result<()> {
+    let length = read_number(from)?;
     let mut room = [0u8; FILE_ROOM];
-    list_read(rt, from, number, &mut room[..length as usize])
+    list_read(rt, from, number, &mut room[..usize::from(length)])
 }
 
-// Answers whether there were so many.
-fn list_all(rt: &impl Print, from: &mut impl Read, count: u16) -> bool {
-    let mut number = 0;
-    while number < count {
-        if !list_next(rt, from, number) {
-            return false;
-        }
-        number += 1;
+fn list_file(rt: &impl Print, from: &mut impl Read) -> io::Result<()> {
+    let count = read_number(from)?;
+    for number in 0..count {
+        list_next(rt, from, number)?;
     }
-    true
-}
-
-fn list_file(rt: &impl Print, from: &mut impl Read) -> bool {
-    let read = read_number(from);
-    let Number::Read(count) = read else {
-        return false;
-    };
-    list_all(rt, from, count)
+    Ok(())
 }
 
 fn main(rt: HostRuntime) {
@@ -103,11 +81,10 @@ fn main(rt: HostRuntime) {
         print(&rt, b"plans.data cannot be opened\n");
         return;
     };
-    if !list_file(&rt, &mut file) {
+    if list_file(&rt, &mut file).is_err() {
         print(&rt, b"plans.data is cut short\n");
     }
-    let mut more = [0u8; 1];
-    if read_full(&mut file, &mut more) > 0 {
+    if file.read_exact(&mut [0u8]).is_ok() {
         print(&rt, b"plans.data goes on behind its last plan\n");
     }
 }

@@ -1,4 +1,4 @@
-use Rattle.text.proofs.+write_decimal.Given as goal
+use Rattle.text.proofs.Text.+write_decimal.Given as goal
 
 abbrev pub decreases-write_decimal : goal.decreases-write_decimal
 decreases-write_decimal l = l.n
