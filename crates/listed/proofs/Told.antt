@@ -92,17 +92,17 @@ accepted-text file {report = report} listed z =
     (subst⁻¹ (λ (l : List ℕ). Told file (lent_log s) l) same_report (lines-back file ok (λ q. listed.ended z (first ∙ q))))
 
 -- the listing stands in front of the slice, and nothing else has changed
-pub listing-left : (file : List ℕ) {code size : ℕ} {memory log report slice left : List ℕ} {before after : Text} → RanToEnd file code memory log report
+pub listing-left : (file : List ℕ) {code : ℕ} {memory log report slice bytes left : List ℕ} {before after : Text} → RanToEnd file code memory log report
     → written before ≡ []
     → rest before ≡ slice
     → Wrote before (listing file) after
-    → size ≡ length (written after)
+    → bytes ≡ written after
     → left ≡ after.bytes.now
-    → WroteListing file (record { code = code; length = size }) memory slice left
-listing-left file {size = size} {slice = slice} {before = before} {after = after} listed nothing all wrote count last =
+    → WroteListing file (record { code = code; length = length bytes }) memory slice left
+listing-left file {slice = slice} {bytes = bytes} {before = before} {after = after} listed nothing all wrote as_bytes last =
     let lines : written after ≡ listing file = wrote.stands ∙ ap (λ (l : List ℕ). l ++ listing file) nothing in
-    let same : size ≡ length (listing file) = count ∙ ap length lines in
-    let behind : rest after ≡ drop size slice =
+    let same : length bytes ≡ length (listing file) = ap length (as_bytes ∙ lines) in
+    let behind : rest after ≡ drop (length bytes) slice =
     wrote.behind ∙ (ap (λ (l : List ℕ). drop (length (listing file)) l) all ∙ ap (λ (k : ℕ). drop k slice) (sym same)) in
     record {
       code = listed.code;

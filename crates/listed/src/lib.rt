@@ -21,7 +21,8 @@ use words::word_at;
 // Room for any listing: a line for each record, and the last line.
 pub const TEXT_ROOM: usize = RECORD_LINE_LIMIT * ENTRIES_LIMIT + END_LINE_LIMIT;
 
-// What tampermauve_check returns, and how long the text is.
+// What tampermauve_check returns, and how long the text is. Both for every file, since a refused one has a line too: a Result would say
+// the length twice.
 #[derive(Clone, Copy)]
 pub struct Written {
     pub code: u32,
@@ -31,8 +32,8 @@ pub struct Written {
 // Writes a line for each record of the log, then how the plan ended and the moving turns. A file that is refused gives one line.
 // Leaves an accepted plan's memory.
 pub fn write_listing(file: &[u8], memory: &mut [u8], text: &mut [u8]) -> Written
-    requires memory_value { memory.old ≡ replicate memory_length 0 }
-    requires text_room_in_bounds { text_room ≤ length text.old }
+    requires zero_memory { memory.old ≡ replicate memory_length 0 }
+    requires enough_room { text_room ≤ length text.old }
     ensures { WroteListing file.now result memory.new text.old text.new }
 {
     let mut log = [0u8; LOG_LENGTH];
@@ -41,12 +42,12 @@ pub fn write_listing(file: &[u8], memory: &mut [u8], text: &mut [u8]) -> Written
     let mut lines = Text::new(text);
     if code != ACCEPTED {
         lines.write_refusal(code);
-        let length = lines.len();
+        let length = lines.as_bytes().len();
         return Written { code, length };
     }
     lines.write_log(&log, usize::from(word_at(&report, REPORT_RECORDS)));
     lines.write_end(&report);
-    let length = lines.len();
+    let length = lines.as_bytes().len();
     Written { code, length }
 }
 

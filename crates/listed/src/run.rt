@@ -9,9 +9,9 @@ use tampermauve::tampermauve_run;
 
 // Runs a plan from zero memory. Returns what tampermauve_run does.
 pub fn run_listed(file: &[u8], memory: &mut [u8], log: &mut [u8], report: &mut [u8]) -> u32
-    requires memory_value { memory.old ≡ replicate memory_length 0 }
-    requires log_len { length log.old ≡ log_length }
-    requires report_len { length report.old ≡ report_length }
+    requires zero_memory { memory.old ≡ replicate memory_length 0 }
+    requires whole_log { length log.old ≡ log_length }
+    requires whole_report { length report.old ≡ report_length }
     ensures { RanToEnd file.now result memory.new log.new report.new }
 {
     let mut turns = [0u8; ENDING_TURNS];

@@ -27,6 +27,10 @@ written t = take t.end t.bytes.now
 abbrev pub rest : Text → List ℕ
 rest t = drop t.end t.bytes.now
 
+-- how many bytes more it holds
+abbrev pub room : Text → ℕ
+room t = length (rest t)
+
 -- these bytes stand behind what was written, all else is as it was, and the slice is the same
 pub record Wrote (before : Text) (bytes : List ℕ) (after : Text) : Type 0 where
   pub stands : written after ≡ written before ++ bytes

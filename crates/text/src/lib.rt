@@ -15,7 +15,7 @@ pub struct Text<'a> {
 }
 
 impl<'a> Text<'a> {
-    ghost use Rattle.text.specs.Text.{written, rest, Wrote};
+    ghost use Rattle.text.specs.Text.{written, rest, room, Wrote};
 
     pub fn new(bytes: &'a mut [u8]) -> Text<'a>
         ensures nothing_written { written result ≡ [] }
@@ -25,15 +25,14 @@ impl<'a> Text<'a> {
         Text { bytes, end: 0 }
     }
 
-    // How many bytes are written.
-    pub fn len(&self) -> usize
-        ensures { result ≡ length (written self.now) }
+    pub fn as_bytes(&self) -> &[u8]
+        ensures { result.now ≡ written self.now }
     {
-        self.end
+        &self.bytes[..self.end]
     }
 
     fn write_byte(&mut self, byte: u8)
-        requires { 0 < length (rest self.old) }
+        requires { 0 < room self.old }
         ensures { Wrote self.old (byte ∷ []) self.new }
     {
         self.bytes[self.end] = byte;
@@ -41,7 +40,7 @@ impl<'a> Text<'a> {
     }
 
     pub fn write_bytes(&mut self, bytes: &[u8])
-        requires { length bytes.now ≤ length (rest self.old) }
+        requires { length bytes.now ≤ room self.old }
         ensures { Wrote self.old bytes.now self.new }
     {
         let end = self.end + bytes.len();
@@ -49,9 +48,9 @@ impl<'a> Text<'a> {
         self.end = end;
     }
 
-    // The digits of a number, the most significant first.
+    // The digits of a number, the most significant first. By a recursion: std's Display has no clause that says it succeeds.
     fn write_decimal(&mut self, n: u64)
-        requires { length (decimal n) ≤ length (rest self.old) }
+        requires { length (decimal n) ≤ room self.old }
         ensures { Wrote self.old (decimal n) self.new }
     {
         if 10 <= n {
@@ -62,7 +61,7 @@ impl<'a> Text<'a> {
 
     // Numbers with a space between them and a newline behind the last.
     pub fn write_line(&mut self, numbers: &[u64])
-        requires { length (line numbers.now) ≤ length (rest self.old) }
+        requires { length (line numbers.now) ≤ room self.old }
         ensures { Wrote self.old (line numbers.now) self.new }
     {
         for (i, &number) in numbers.iter().enumerate() {

@@ -2,7 +2,7 @@
 ghost use Rattle.std.specs.Prelude.{[], ◌∷◌, ◌++◌, ◌+◌, ◌*◌, ◌/◌, ◌%◌, ◌≤◌, length};
 ghost use Rattle.protocol.specs.Report.{entry_length};
 ghost use Rattle.protocol.specs.Listing.{space, record_line, log_lines, end_word, refusal_line};
-ghost use Rattle.text.specs.Text.{record_line_limit, end_word_limit, end_line_limit, refusal_line_limit, rest, WroteWithin, entry_at, entries_from, end_numbered, last_line};
+ghost use Rattle.text.specs.Text.{record_line_limit, end_word_limit, end_line_limit, refusal_line_limit, room, WroteWithin, entry_at, entries_from, end_numbered, last_line};
 
 use crate::Text;
 use journal::ends;
@@ -21,7 +21,7 @@ impl<'a> Text<'a> {
     // Round, worker, op, number and outcome of the record at a position of the log.
     fn write_record(&mut self, log: &[u8], position: usize)
         requires record_in_bounds { position + entry_length ≤ length log.now }
-        requires room { record_line_limit ≤ length (rest self.old) }
+        requires enough_room { record_line_limit ≤ room self.old }
         ensures { WroteWithin record_line_limit self.old (record_line (entry_at log.now position)) self.new }
     {
         self.write_line(&[
@@ -36,7 +36,7 @@ impl<'a> Text<'a> {
     // A line for each of so many records.
     pub fn write_log(&mut self, log: &[u8], records: usize)
         requires records_in_bounds { entry_length * records ≤ length log.now }
-        requires room { record_line_limit * records ≤ length (rest self.old) }
+        requires enough_room { record_line_limit * records ≤ room self.old }
         ensures { WroteWithin (record_line_limit * records) self.old (log_lines (entries_from log.now records 0)) self.new }
     {
         for i in 0..records {
@@ -46,7 +46,7 @@ impl<'a> Text<'a> {
 
     // How a plan that has ended did so.
     fn write_end_word(&mut self, end: u8)
-        requires { end_word_limit ≤ length (rest self.old) }
+        requires { end_word_limit ≤ room self.old }
         ensures { WroteWithin end_word_limit self.old (end_word (end_numbered end) ++ (space ∷ [])) self.new }
     {
         if end == ends::FINISHED {
@@ -58,7 +58,7 @@ impl<'a> Text<'a> {
 
     // The end and the moving turns.
     pub fn write_end(&mut self, report: &[u8; REPORT_LENGTH])
-        requires { end_line_limit ≤ length (rest self.old) }
+        requires { end_line_limit ≤ room self.old }
         ensures { WroteWithin end_line_limit self.old (last_line report.now) self.new }
     {
         self.write_end_word(report[REPORT_END]);
@@ -67,7 +67,7 @@ impl<'a> Text<'a> {
 
     // The code is refusal + 256 × index.
     pub fn write_refusal(&mut self, code: u32)
-        requires { refusal_line_limit ≤ length (rest self.old) }
+        requires { refusal_line_limit ≤ room self.old }
         ensures { WroteWithin refusal_line_limit self.old (refusal_line (code % 256) (code / 256)) self.new }
     {
         self.write_bytes(b"refused ");

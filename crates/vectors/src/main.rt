@@ -31,8 +31,7 @@ fn print_line(rt: &impl Print, word: &[u8], number: u64)
     let mut text = Text::new(&mut bytes);
     text.write_bytes(word);
     text.write_line(&[number]);
-    let length = text.len();
-    print(rt, &bytes[..length]);
+    print(rt, text.as_bytes());
 }
 
 fn list_plan(rt: &impl Print, file: &[u8]) {
@@ -49,23 +48,14 @@ fn read_number(from: &mut impl Read) -> io::Result<u16> {
     Ok(u16::from_le_bytes(bytes))
 }
 
-// Reads a plan file of just this length and lists it.
-fn list_read(
-    rt: &impl Print,
-    from: &mut impl Read,
-    number: u16,
-    file: &mut [u8],
-) -> io::Result<()> {
+fn list_next(rt: &impl Print, from: &mut impl Read, number: u16) -> io::Result<()> {
+    let length = read_number(from)?;
+    let mut room = [0u8; FILE_ROOM];
+    let file = &mut room[..usize::from(length)];
     from.read_exact(file)?;
     print_line(rt, b"plan ", u64::from(number));
     list_plan(rt, file);
     Ok(())
-}
-
-fn list_next(rt: &impl Print, from: &mut impl Read, number: u16) -> io::Result<()> {
-    let length = read_number(from)?;
-    let mut room = [0u8; FILE_ROOM];
-    list_read(rt, from, number, &mut room[..usize::from(length)])
 }
 
 fn list_file(rt: &impl Print, from: &mut impl Read) -> io::Result<()> {

@@ -10,7 +10,7 @@ pub returns : goal.returns
 returns c =
     ran-to-end _ _ _ _ _ c.tampermauve_run.ensures
     (record {
-      zeros = c.requires.memory_value;
-      fits = record { memory = ap length c.requires.memory_value ∙ length-replicate {A = ℕ} memory_length 0; log = c.requires.log_len; report = c.requires.report_len; work = refl };
+      zeros = c.requires.zero_memory;
+      fits = record { memory = ap length c.requires.zero_memory ∙ length-replicate {A = ℕ} memory_length 0; log = c.requires.whole_log; report = c.requires.whole_report; work = refl };
       full = c.write_turns-count.ensures.listed;
     })

@@ -8,7 +8,7 @@ use Rattle.text.proofs.Text.write_record.Goals as goal
 pub write_line-requires : goal.write_line-requires
 write_line-requires c =
     let same = record-line (entry_at c.args.log.now c.args.position) _ _ _ _ _ (c.from.ensures ∙ c.word_at.ensures) c.from-2.ensures c.from-3.ensures c.from-4.ensures c.from-5.ensures in
-    omega (arith, c.requires.room, ap length same, record-length c.args.log.now c.args.position (λ k. (c.type_inv.log k).fits))
+    omega (arith, c.requires.enough_room, ap length same, record-length c.args.log.now c.args.position (λ k. (c.type_inv.log k).fits))
 
 pub returns : goal.returns
 returns c =
