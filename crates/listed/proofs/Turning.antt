@@ -129,9 +129,9 @@ whole-listed : (file turns : List ℕ) (steps n : ℕ) → check file ≡ accept
     → turn_count steps n ≤ length turns
     → ((i : ℕ) → i < turn_count steps n → get_or turns i 0 ≡ i % n)
     → take (turn_count steps n) turns ≡ listed_turns (plan_of file)
-whole-listed file turns steps n ok same_n sameSteps fits each =
+whole-listed file turns steps n ok same_n same_steps fits each =
     ext_get_or 0 (take (turn_count steps n) turns) (cycles n (2 * (steps + n))) (long ∙ sym (length-cycles n (2 * (steps + n)))) same
-    ∙ (ap (λ (w : ℕ). cycles w (2 * (steps + w))) workers ∙ ap (λ (s : ℕ). cycles (workers_of (plan_of file)) (2 * (s + workers_of (plan_of file)))) sameSteps)
+    ∙ (ap (λ (w : ℕ). cycles w (2 * (steps + w))) workers ∙ ap (λ (s : ℕ). cycles (workers_of (plan_of file)) (2 * (s + workers_of (plan_of file)))) same_steps)
   where
     long : length (take (turn_count steps n) turns) ≡ turn_count steps n
     long = length-take-le (turn_count steps n) turns fits
