@@ -1,33 +1,20 @@
--- The laws of the codes. Callers want `fate-code`, `code_same`, `code-asleep`, `step-sync`, `op-sync` and `operand-sync`.
+-- The laws of the codes. Callers want `code_same`, `code-asleep`, `step-sync`, `op-sync` and `operand-sync`.
 -- Assumes nothing.
-use Prim.Native.Nat.{ℕ, ◌+◌, ◌*◌, ◌-◌, ◌/◌, ◌%◌, ◌≤◌, ◌<◌}
+use Prim.Native.Nat.{ℕ, ◌+◌, ◌*◌, ◌≤◌, ◌<◌}
 use native.Mathlib.Omega.{arith}
-use borrow.Author.Tests.{le-ltb, eq-eqb, ne_eqb, eqb-true, eqb-false}
-use mathlib.Core.Bool.{Bool, true, false, cond, not}
+use borrow.Author.Tests.{eq-eqb, ne_eqb, eqb-true, eqb-false}
+use mathlib.Core.Bool.{Bool, true, false}
 use mathlib.Core.Option.{none, some}
 use mathlib.Core.Path.{◌≡◌, refl}
-use lib.Dec.{ltb, eqb}
+use lib.Dec.{eqb}
 use Rattle.protocol.specs.Ops.{op_start}
 use Rattle.protocol.specs.Format.{Record, row_in, row_of, step_of, sync, exit, synchronises}
 use Rattle.protocol.specs.Steps.{QueueName, on_condition, at_barrier, Fate, going, exited, failed, asleep, waiting}
-use Rattle.protocol.specs.Rounds.{waits_on, is_waiting, is_asleep, op_of, operand_of}
+use Rattle.protocol.specs.Rounds.{waits_on, is_asleep, op_of, operand_of}
 use Rattle.protocol.proofs.Each.{each}
 use Rattle.protocol.proofs.Points.{from_first}
 use Rattle.format.specs.Fates.{code_asleep, code_on_condition}
-use Rattle.rules.specs.Codes.{fate_code, fate_of, sync_of}
-
-pub fate-code : (f : Fate) → fate_of (fate_code f) ≡ f
-unfolding fate_of
-fate-code going = refl
-fate-code exited = refl
-fate-code failed = refl
-fate-code asleep = refl
-fate-code (waiting (on_condition c)) =
-    let half : (4 + 2 * c - 4) / 2 ≡ c = omega arith in
-    rw (le-ltb (4 + 2 * c) code_on_condition (omega arith), eq-eqb ((4 + 2 * c) % 2) 0 (omega arith), half)
-fate-code (waiting (at_barrier b)) =
-    let half : (5 + 2 * b - 5) / 2 ≡ b = omega arith in
-    rw (le-ltb (5 + 2 * b) code_on_condition (omega arith), ne_eqb ((5 + 2 * b) % 2) 0 (λ e. omega arith), half)
+use Rattle.rules.specs.Codes.{fate_code, sync_of}
 
 -- who waits, by the code
 not-waiting : (k : ℕ) → k < code_on_condition → (q : QueueName) → eqb k (fate_code (waiting q)) ≡ false
@@ -55,19 +42,6 @@ code-asleep failed = refl
 code-asleep asleep = refl
 code-asleep (waiting (on_condition c)) = ne_eqb (4 + 2 * c) 3 (λ e. omega arith)
 code-asleep (waiting (at_barrier b)) = ne_eqb (5 + 2 * b) 3 (λ e. omega arith)
-
--- the tests of the code
-pub code-waits : (k : ℕ) → is_waiting (fate_of k) ≡ not (ltb k code_on_condition)
-unfolding fate_of
-code-waits k = go (ltb k code_on_condition) (eqb k 0) (eqb k 1) (eqb k 2) _
-  where
-    go : (small zero one two : Bool) (q : QueueName)
-        → is_waiting (cond small (cond zero going (cond one exited (cond two failed asleep))) (waiting q)) ≡ not small
-    go true true one two q = refl
-    go true false true two q = refl
-    go true false false true q = refl
-    go true false false false q = refl
-    go false zero one two q = refl
 
 -- the step of a record of the plan file
 pub step-sync : (r : Record) → synchronises r.op ≡ true → r.op ≤ op_start → step_of r ≡ sync (sync_of r.op r.number)

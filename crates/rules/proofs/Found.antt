@@ -11,9 +11,9 @@ use lib.Dec.{eqb, ltb}
 use lib.ListN.{length, get_or}
 use Rattle.protocol.specs.Steps.{QueueName, waiting}
 use Rattle.protocol.specs.Rounds.{State, worker_at, waits_on, queue_of, member, keep}
+use Rattle.queue.proofs.Laws.{member-one}
 use Rattle.queue.proofs.Picked.{length-keep}
-use Rattle.queue.specs.declared.Queue.{Queue}
-use Rattle.queue.specs.List.{list_of, Below}
+use Rattle.queue.specs.List.{Below}
 use Rattle.rules.specs.Codes.{fate_code}
 use Rattle.rules.specs.Rules.{found, Met}
 use Rattle.rules.proofs.Codes.{code_same}
@@ -54,41 +54,40 @@ below-keep n t ws b w e = b w (first (member w ws) (t w) (sym (member-keep t ws 
     first false b e = e
 
 -- those whom a barrier finds: they are too few for it if all who wait there are, and else they are all of them
-module _ {fates : List ℕ} {waiting : Queue} {code size : ℕ} {q : Queue} (m : Met fates waiting code size q) where
+module _ {fates waiting : List ℕ} {code size : ℕ} {q : List ℕ} (m : Met fates waiting code size q) where
   abbrev there : List ℕ
-  there = found fates (list_of waiting) code
+  there = found fates waiting code
 
-  short : length there ≤ length (list_of waiting)
-  short = length-keep (λ w. eqb (get_or fates w 0) code) (list_of waiting)
+  short : length there ≤ length waiting
+  short = length-keep (λ w. eqb (get_or fates w 0) code) waiting
 
-  pub met-few : length (list_of q) + 1 < size → ltb (length there) (size - 1) ≡ true
-  met-few h = lt-ltb (length there) (size - 1) (elim (dec_lt (length (list_of waiting) + 1) size) [
+  pub met-few : length q + 1 < size → ltb (length there) (size - 1) ≡ true
+  met-few h = lt-ltb (length there) (size - 1) (elim (dec_lt (length waiting + 1) size) [
     | yes l ↦ omega (arith, l, short)
     | no l ↦ omega (arith, h, ap length (m.late (omega arith)))
   ])
 
-  pub met_all : size ≤ length (list_of q) + 1 → list_of q ≡ there
-  met_all h = elim (dec_lt (length (list_of waiting) + 1) size) [
+  pub met_all : size ≤ length q + 1 → q ≡ there
+  met_all h = elim (dec_lt (length waiting + 1) size) [
     | yes l ↦ absurd (omega (arith, l, h, ap length (m.early l)))
     | no l ↦ m.late (omega arith)
   ]
 
-  pub met-short : length (list_of q) ≤ length (list_of waiting)
-  met-short = elim (dec_lt (length (list_of waiting) + 1) size) [
+  pub met-short : length q ≤ length waiting
+  met-short = elim (dec_lt (length waiting + 1) size) [
     | yes l ↦ omega (arith, ap length (m.early l))
     | no l ↦ omega (arith, ap length (m.late (omega arith)), short)
   ]
 
-  pub met-below : {n : ℕ} → Below n (list_of waiting) → Below n (list_of q)
+  pub met-below : {n : ℕ} → Below n waiting → Below n q
   unfolding member
-  met-below {n} b = elim (dec_lt (length (list_of waiting) + 1) size) [
+  met-below {n} b = elim (dec_lt (length waiting + 1) size) [
     | yes l ↦ rw (m.early l) (λ w e. absurd (let k : ◌≡◌ {A = ℕ} 0 1 = cc in omega arith))
-    | no l ↦ rw (m.late (omega arith)) (below-keep n _ (list_of waiting) b)
+    | no l ↦ rw (m.late (omega arith)) (below-keep n _ waiting b)
   ]
 
--- with room for more
-pub and-more : {j k : ℕ} (m : ℕ) → j ≤ k → j ≤ k + m
-and-more m h = omega arith
+pub one-below : {n w : ℕ} → w < n → Below n (w ∷ [])
+one-below {n} {w} h v m = omega (arith, h, eqb-true v w (sym (member-one v w) ∙ m))
 
 -- the queue of a condition or a barrier, by the fates' codes
 pub queue-coded :

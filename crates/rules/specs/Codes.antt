@@ -1,17 +1,20 @@
 -- The numbers and enums of the code as the protocol's definitions have them.
-use Rattle.std.specs.Prelude.{ℕ, ◌+◌, ◌*◌, ◌-◌, ◌/◌, ◌%◌, cond, ltb, eqb}
+use Rattle.std.specs.Prelude.{ℕ, ◌+◌, ◌*◌, cond, eqb}
 use Rattle.protocol.specs.Ops.{op_lock, op_unlock, op_wait, op_signal, op_broadcast, op_barrier, op_start}
 use Rattle.protocol.specs.Format.{Sync, lock, unlock, wait, signal, broadcast, barrier, start_worker, exit}
-use Rattle.protocol.specs.Steps.{on_condition, at_barrier, Fate, going, exited, failed, asleep, waiting}
+use Rattle.protocol.specs.Steps as steps
+use Rattle.protocol.specs.Steps.{on_condition, at_barrier, going, exited, failed, asleep, waiting}
 use Rattle.protocol.specs.Rounds as rounds
 use Rattle.format.specs.Fates.{code_asleep, code_on_condition, code_at_barrier}
+use Rattle.rules.specs.declared.fate.Fate.{Fate}
+use Rattle.rules.specs.declared.fate.Fate.TheVariants.{Going, Exited, Failed, Asleep, OnCondition, AtBarrier}
 use Rattle.rules.specs.declared.ruling.Uncommitted.{Uncommitted}
 use Rattle.rules.specs.declared.ruling.Uncommitted.TheVariants.{Kept, Committed, Lost}
 use Rattle.rules.specs.declared.ruling.Goes.{Goes}
 use Rattle.rules.specs.declared.ruling.Goes.TheVariants.{Keeps, Gives, Leaves}
 
 -- a fate as one number
-abbrev pub fate_code : Fate → ℕ
+abbrev pub fate_code : steps.Fate → ℕ
 fate_code going = 0
 fate_code exited = 1
 fate_code failed = 2
@@ -26,10 +29,13 @@ condition_code c = fate_code (waiting (on_condition c))
 abbrev pub barrier_code : ℕ → ℕ
 barrier_code b = fate_code (waiting (at_barrier b))
 
-unfoldable pub fate_of : ℕ → Fate
-fate_of k =
-    cond (ltb k code_on_condition) (cond (eqb k 0) going (cond (eqb k 1) exited (cond (eqb k 2) failed asleep)))
-    (waiting (cond (eqb (k % 2) 0) (on_condition ((k - code_on_condition) / 2)) (at_barrier ((k - code_at_barrier) / 2))))
+abbrev pub fate_of : Fate → steps.Fate
+fate_of Going = going
+fate_of Exited = exited
+fate_of Failed = failed
+fate_of Asleep = asleep
+fate_of (OnCondition c) = waiting (on_condition c)
+fate_of (AtBarrier b) = waiting (at_barrier b)
 
 abbrev pub uncommitted_of : Uncommitted → rounds.Uncommitted
 uncommitted_of Kept = rounds.kept
@@ -39,13 +45,7 @@ uncommitted_of Lost = rounds.lost
 abbrev pub goes_of : Goes → rounds.Goes
 goes_of Keeps = rounds.keeps
 goes_of Gives = rounds.gives
-goes_of (Leaves k) = rounds.leaves (fate_of k)
-
--- the code of the holder's fate after its step
-abbrev pub code_after : Goes → ℕ
-code_after Keeps = 0
-code_after Gives = 0
-code_after (Leaves k) = k
+goes_of (Leaves f) = rounds.leaves (fate_of f)
 
 -- a synchronising step by its op, as the table has it (`step-sync` in proofs/Codes ties the two); where an op is no such step's, an exit
 unfoldable pub sync_of : ℕ → ℕ → Sync

@@ -1,4 +1,5 @@
-// The rules of the synchronising steps as data, but for the broadcast's.
+// The rules of the synchronising steps as data, but for the broadcast's, and the fates that they give.
 #![tactic(auto)]
 
+pub mod fate;
 pub mod ruling;

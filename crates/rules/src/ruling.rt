@@ -1,15 +1,16 @@
 // The rule of each synchronising step.
-ghost use Rattle.std.specs.Prelude.{◌≡◌, List, ℕ, ◌≤◌, length};
+ghost use Rattle.std.specs.Prelude.{◌≡◌, List, ℕ, ◌≤◌};
 ghost use Rattle.protocol.specs.Ops.{op_broadcast};
 ghost use Rattle.protocol.specs.Format.{workers_limit, lock_limit, by_name};
 ghost use Rattle.protocol.specs.Rounds.{failure, lock_rule, unlock_rule, wait_rule, signal_rule, barrier_rule, exit_rule};
 ghost use Rattle.locks.specs.Set.{Shows, Held};
-ghost use Rattle.queue.specs.List.{list_of, Good, Below};
-ghost use Rattle.queue.specs.declared.Queue.{Queue};
+ghost use Rattle.queue.specs.List.{Below};
 ghost use Rattle.rules.specs.Codes.{condition_code, barrier_code};
-ghost use Rattle.rules.specs.Rules.{found, AtZero, Commits, Met, Starting, Started, Asking, Means, Ruled};
+ghost use Rattle.rules.specs.declared.ruling.Moves.TheVariants.{Nobody};
+ghost use Rattle.rules.specs.Rules.{commit_alone, found, AtZero, Commits, Coherent, Met, Starting, Started, Asking, Means, Ruled};
 
-use format::fates::{ASLEEP, AT_BARRIER, EXITED, FAILED, ON_CONDITION};
+use crate::fate::Fate;
+use format::fates::ASLEEP;
 use format::limits::{BARRIER_COUNT, WORKERS_LIMIT};
 use format::ops;
 use locks::{count, holds, with, without};
@@ -34,53 +35,68 @@ pub enum Uncommitted {
     Lost,
 }
 
-// Where the holder goes. One that leaves has a fate, by its code.
+// Where the holder goes.
 #[derive(Clone, Copy)]
 pub enum Goes {
     Keeps,
     Gives,
-    Leaves(u64),
+    Leaves(Fate),
 }
 
-// queued: those who wait where the step says, if its rule asks for them, or the sleeper that it starts. wakes: the first of them is woken;
-// joins: all of them join the next list; starts: the sleeper does. A start has a mark of its own: where it shared that of a full barrier, the
-// compiler no longer told the other steps apart by it, and they took up to a third more instructions.
+// Whom the step moves, but for the holder: the worker that it wakes goes directly behind the holder, those of a full barrier and a sleeper that
+// is started join the next list.
+#[derive(Clone, Copy)]
+pub enum Moves {
+    Nobody,
+    Wakes(u64),
+    Joins(Queue),
+    Starts(u64),
+}
+
 #[derive(Clone, Copy)]
 pub struct Ruling {
     pub bytes: Uncommitted,
     pub held: u64,
     pub goes: Goes,
-    pub wakes: bool,
-    pub joins: bool,
-    pub starts: bool,
-    pub queued: Queue,
+    pub moves: Moves,
     pub outcome: u8,
 }
 
-fn failed(held: u64) -> Ruling
-    ensures { (locks : List ℕ) → Shows held locks → (number called : ℕ) (waiting : Queue) (fates : List ℕ) → Means number called waiting fates result (failure locks) }
+// A commit, and nothing else.
+fn committed(held: u64) -> Ruling
+    ensures { result ≡ commit_alone held }
 {
-    let none = Queue::empty();
     Ruling {
-        bytes: Uncommitted::Lost,
+        bytes: Uncommitted::Committed,
         held,
-        goes: Goes::Leaves(FAILED),
-        wakes: false,
-        joins: false,
-        starts: false,
-        queued: none,
-        outcome: OUTCOME_FAILED,
+        goes: Goes::Keeps,
+        moves: Moves::Nobody,
+        outcome: OUTCOME_NONE,
     }
 }
 
+fn failed(held: u64) -> Ruling
+    ensures means { Means held result failure }
+    ensures calm { result.moves ≡ Nobody }
+{
+    Ruling {
+        bytes: Uncommitted::Lost,
+        goes: Goes::Leaves(Fate::Failed),
+        outcome: OUTCOME_FAILED,
+        ..committed(held)
+    }
+}
+
+#[tactic(auto, using(crate::proofs::Rulings::held_some))]
 fn gives_at_zero(held: u64) -> Goes
-    ensures { (locks : List ℕ) → Shows held locks → AtZero (length locks) result }
+    ensures { AtZero held result }
 {
     if held == 0 { Goes::Gives } else { Goes::Keeps }
 }
 
+#[tactic(auto, using(crate::proofs::Rulings::held_some))]
 fn commits_at_zero(held: u64) -> Uncommitted
-    ensures { (locks : List ℕ) → Shows held locks → Commits (length locks) result }
+    ensures { Commits held result }
 {
     if held == 0 {
         Uncommitted::Committed
@@ -91,198 +107,142 @@ fn commits_at_zero(held: u64) -> Uncommitted
 
 fn lock(k: u64, held: u64) -> Ruling
     requires { (k ≤ lock_limit) × Held held }
-    ensures { (locks : List ℕ) → Shows held locks → (number called : ℕ) (waiting : Queue) (fates : List ℕ) → Means number called waiting fates result (lock_rule by_name k locks) }
+    ensures means { Means held result (lock_rule by_name k) }
+    ensures calm { result.moves ≡ Nobody }
 {
     if holds(held, k) {
         return failed(held);
     }
-    let none = Queue::empty();
-    let bytes = commits_at_zero(held);
     let after = with(held, k);
-    let outcome = count(after) as u8;
     Ruling {
-        bytes,
-        held: after,
-        goes: Goes::Keeps,
-        wakes: false,
-        joins: false,
-        starts: false,
-        queued: none,
-        outcome,
+        bytes: commits_at_zero(held),
+        outcome: count(after) as u8,
+        ..committed(after)
     }
 }
 
 fn unlock(k: u64, held: u64) -> Ruling
     requires { (k ≤ lock_limit) × Held held }
-    ensures { (locks : List ℕ) → Shows held locks → (number called : ℕ) (waiting : Queue) (fates : List ℕ) → Means number called waiting fates result (unlock_rule by_name k locks) }
+    ensures means { Means held result (unlock_rule by_name k) }
+    ensures calm { result.moves ≡ Nobody }
 {
     if !holds(held, k) {
         return failed(held);
     }
-    let none = Queue::empty();
     let left = without(held, k);
-    let bytes = commits_at_zero(left);
-    let goes = gives_at_zero(left);
-    let outcome = count(left) as u8;
     Ruling {
-        bytes,
-        held: left,
-        goes,
-        wakes: false,
-        joins: false,
-        starts: false,
-        queued: none,
-        outcome,
+        bytes: commits_at_zero(left),
+        goes: gives_at_zero(left),
+        outcome: count(left) as u8,
+        ..committed(left)
     }
 }
 
-fn wait(condition: u64, mine: u64) -> Ruling
-    requires { condition ≤ lock_limit }
-    ensures { (locks : List ℕ) → Shows mine locks → (number called : ℕ) (waiting : Queue) (fates : List ℕ) → Means number called waiting fates result (wait_rule condition locks) }
+#[tactic(auto, using(crate::proofs::Rulings::held_some))]
+fn wait(condition: u16, held: u64) -> Ruling
+    ensures means { Means held result (wait_rule condition) }
+    ensures calm { result.moves ≡ Nobody }
 {
-    if mine == 0 {
-        return failed(mine);
+    if held == 0 {
+        return failed(held);
     }
-    let none = Queue::empty();
     Ruling {
-        bytes: Uncommitted::Committed,
-        held: mine,
-        goes: Goes::Leaves(ON_CONDITION + 2 * condition),
-        wakes: false,
-        joins: false,
-        starts: false,
-        queued: none,
-        outcome: OUTCOME_NONE,
+        goes: Goes::Leaves(Fate::OnCondition(condition)),
+        ..committed(held)
     }
 }
 
-fn signal(condition: u64, held: u64, waiting: Queue, fates: &[u64; WORKERS_LIMIT]) -> Ruling
-    requires { (condition ≤ lock_limit) × Good waiting × Below workers_limit (list_of waiting) }
-    ensures { (locks : List ℕ) → Shows held locks → (number called : ℕ) → Means number called waiting fates.now result
-        (signal_rule (found fates.now (list_of waiting) (condition_code condition)) locks) }
+fn signal(condition: u16, held: u64, waiting: Queue, fates: &[u64; WORKERS_LIMIT]) -> Ruling
+    requires { Below workers_limit waiting }
+    ensures means { Means held result (signal_rule (found fates.now waiting (condition_code condition))) }
+    ensures sound { Coherent condition 0 waiting fates.now result.moves }
 {
     let goes = gives_at_zero(held);
-    let queued = waiting.select(fates, ON_CONDITION + 2 * condition);
+    let queued = waiting.select(fates, Fate::OnCondition(condition).code());
     if queued.is_empty() {
         return Ruling {
-            bytes: Uncommitted::Committed,
-            held,
             goes,
-            wakes: false,
-            joins: false,
-            starts: false,
-            queued,
-            outcome: OUTCOME_NONE,
+            ..committed(held)
         };
     }
+    let first = queued.first();
     Ruling {
-        bytes: Uncommitted::Committed,
-        held,
         goes,
-        wakes: true,
-        joins: false,
-        starts: false,
-        queued,
-        outcome: queued.first() as u8,
+        moves: Moves::Wakes(first),
+        outcome: first as u8,
+        ..committed(held)
     }
 }
 
 // Those who wait at barrier b; nobody, where all who wait are too few for it.
-fn met(b: u64, size: u8, waiting: Queue, fates: &[u64; WORKERS_LIMIT]) -> Queue
-    requires { (b ≤ lock_limit) × Good waiting × Below workers_limit (list_of waiting) }
+fn met(b: u16, size: u8, waiting: Queue, fates: &[u64; WORKERS_LIMIT]) -> Queue
+    requires { Below workers_limit waiting }
     ensures { Met fates.now waiting (barrier_code b) size result }
 {
     if waiting.count() + 1 < size as u64 {
         return Queue::empty();
     }
-    waiting.select(fates, AT_BARRIER + 2 * b)
+    waiting.select(fates, Fate::AtBarrier(b).code())
 }
 
-fn barrier(b: u64, size: u8, held: u64, waiting: Queue, fates: &[u64; WORKERS_LIMIT]) -> Ruling
-    requires { (b ≤ lock_limit) × Good waiting × Below workers_limit (list_of waiting) }
-    ensures { (locks : List ℕ) → Shows held locks → (called : ℕ) → Means b called waiting fates.now result
-        (barrier_rule b size (found fates.now (list_of waiting) (barrier_code b)) locks) }
+fn barrier(b: u16, size: u8, held: u64, waiting: Queue, fates: &[u64; WORKERS_LIMIT]) -> Ruling
+    requires { Below workers_limit waiting }
+    ensures means { Means held result (barrier_rule b size (found fates.now waiting (barrier_code b))) }
+    ensures sound { Coherent b 0 waiting fates.now result.moves }
 {
     if held != 0 {
         return failed(held);
     }
     let queued = met(b, size, waiting, fates);
-    if queued.len + 1 < size as u64 {
+    if queued.count() + 1 < size as u64 {
         return Ruling {
-            bytes: Uncommitted::Committed,
-            held,
-            goes: Goes::Leaves(AT_BARRIER + 2 * b),
-            wakes: false,
-            joins: false,
-            starts: false,
-            queued,
+            goes: Goes::Leaves(Fate::AtBarrier(b)),
             outcome: OUTCOME_QUEUED,
+            ..committed(held)
         };
     }
     Ruling {
-        bytes: Uncommitted::Committed,
-        held,
         goes: Goes::Gives,
-        wakes: false,
-        joins: true,
-        starts: false,
-        queued,
+        moves: Moves::Joins(queued),
         outcome: size,
+        ..committed(held)
     }
 }
 
+#[tactic(auto, using(crate::proofs::Rulings::held_some))]
 fn exit(held: u64) -> Ruling
-    ensures { (locks : List ℕ) → Shows held locks → (number called : ℕ) (waiting : Queue) (fates : List ℕ) → Means number called waiting fates result (exit_rule locks) }
+    ensures means { Means held result exit_rule }
+    ensures calm { result.moves ≡ Nobody }
 {
     if held != 0 {
         return failed(held);
     }
-    let none = Queue::empty();
     Ruling {
-        bytes: Uncommitted::Committed,
-        held,
-        goes: Goes::Leaves(EXITED),
-        wakes: false,
-        joins: false,
-        starts: false,
-        queued: none,
-        outcome: OUTCOME_NONE,
+        goes: Goes::Leaves(Fate::Exited),
+        ..committed(held)
     }
 }
 
 // A start of the target, asleep or not.
 fn start(target: usize, held: u64, waiting: Queue, fates: &[u64; WORKERS_LIMIT]) -> Ruling
     requires { Starting target waiting fates.now }
-    ensures { (locks : List ℕ) → Shows held locks → Started target locks waiting fates.now result }
+    ensures { Started target held waiting fates.now result }
 {
-    let goes = Goes::Keeps;
     if fates[target] != ASLEEP {
-        let none = Queue::empty();
         return Ruling {
-            bytes: Uncommitted::Committed,
-            held,
-            goes,
-            wakes: false,
-            joins: false,
-            starts: false,
-            queued: none,
             outcome: OUTCOME_AWAKE,
+            ..committed(held)
         };
     }
-    let sleeper = Queue::one(target as u64);
     Ruling {
-        bytes: Uncommitted::Committed,
-        held,
-        goes,
-        wakes: false,
-        joins: false,
-        starts: true,
-        queued: sleeper,
+        moves: Moves::Starts(target as u64),
         outcome: OUTCOME_STARTED,
+        ..committed(held)
     }
 }
 
 // The rule of the step with this op and number, no broadcast, where these wait, each where its fate's code says.
+#[inline(always)]
 pub fn rule(
     op: u8,
     number: u16,
@@ -295,24 +255,13 @@ pub fn rule(
     ensures { (locks : List ℕ) → Shows held locks → Ruled op number locks sizes.now waiting fates.now result }
 {
     let n = number as u64;
-    if op == ops::LOCK {
-        return lock(n, held);
+    match op {
+        ops::LOCK => lock(n, held),
+        ops::UNLOCK => unlock(n, held),
+        ops::WAIT => wait(number, held),
+        ops::BARRIER => barrier(number, sizes[number as usize], held, waiting, fates),
+        ops::EXIT => exit(held),
+        ops::START => start(number as usize, held, waiting, fates),
+        _ => signal(number, held, waiting, fates),
     }
-    if op == ops::UNLOCK {
-        return unlock(n, held);
-    }
-    if op == ops::WAIT {
-        return wait(n, held);
-    }
-    if op == ops::BARRIER {
-        let b = number as usize;
-        return barrier(n, sizes[b], held, waiting, fates);
-    }
-    if op == ops::EXIT {
-        return exit(held);
-    }
-    if op == ops::START {
-        return start(number as usize, held, waiting, fates);
-    }
-    signal(n, held, waiting, fates)
 }

@@ -1,42 +1,35 @@
-use native.Mathlib.Omega.{arith}
-use borrow.Author.Tests.{le-ltb}
-use Prim.Native.Nat.{◌-◌}
-use mathlib.Core.Path.{refl, ap}
-use lib.ListN.{length}
-use Rattle.protocol.specs.Steps.{at_barrier, waiting}
-use Rattle.protocol.proofs.Counting.{clash}
-use Rattle.queue.specs.List.{list_of}
-use Rattle.queue.proofs.Digits.{length-list}
-use Rattle.rules.specs.Codes.{fate_code}
-use Rattle.rules.proofs.Codes.{fate-code}
+use Rattle.std.proofs.Common.{arith, refl}
 use Rattle.rules.proofs.Found.{met-few, met_all, met-below, met-short}
-use Rattle.rules.proofs.Rulings.{wakes-nobody, held_none, held-some}
+use Rattle.rules.proofs.Rulings.{calm, held_none, held_some}
 use Rattle.rules.proofs.ruling.barrier.Goals as goal
 
-pub returns-then-held-ne0 : goal.returns-then-held-ne0
-returns-then-held-ne0 c = λ locks z called. rw (held-some locks z c.if-held-ne0.true) (c.failed.ensures locks z _ called _ _)
+pub returns-then-held-ne0-clause-means : goal.returns-then-held-ne0-clause-means
+returns-then-held-ne0-clause-means c = record {
+  same = λ locks s. rw (held_some locks s c.if-held-ne0.true) (c.failed.ensures.means.same locks s);
+  shown = λ locks s. rw (held_some locks s c.if-held-ne0.true) (c.failed.ensures.means.shown locks s);
+}
 
-pub returns-then-queued-size : goal.returns-then-queued-size
-returns-then-queued-size c = λ locks z called.
-    let q = c.met-queued in
-    let a = c.args in
-    let m = q.ensures in
-    let f = waiting (at_barrier a.b) in
-    let fewer = met-few m (omega (arith, length-list q.result, c.if-queued-size.true)) in
+pub returns-then-held-ne0-clause-sound : goal.returns-then-held-ne0-clause-sound
+returns-then-held-ne0-clause-sound c = calm c.failed.ensures.calm
+
+pub returns-then-count-size-clause-means : goal.returns-then-count-size-clause-means
+returns-then-count-size-clause-means c =
+    let fewer = met-few c.met-queued.ensures (omega (arith, c.count.ensures.value, c.if-count-size.true)) in
+    rw c.committed.ensures
     record {
-      same = rw (held_none locks z c.if-held-ne0.false, fewer, fate-code f);
-      shown = rw (held_none locks z c.if-held-ne0.false, fewer) z;
-      sound = wakes-nobody refl (ap fate_code (fate-code f)) m.good (met-below m c.requires.2) (omega (arith, met-short m)) (λ y. clash y) (λ y. clash y);
+      same = λ locks s. rw (held_none locks s c.if-held-ne0.false, fewer);
+      shown = λ locks s. rw (held_none locks s c.if-held-ne0.false, fewer) s;
     }
 
-pub returns : goal.returns
-returns c = λ locks z called.
-    let q = c.met-queued in
-    let a = c.args in
-    let m = q.ensures in
-    let all = met_all m (omega (arith, length-list q.result, c.if-queued-size.false)) in
+pub returns-then-count-size-clause-sound : goal.returns-then-count-size-clause-sound
+returns-then-count-size-clause-sound c = rw c.committed.ensures (calm refl)
+
+pub returns-clause-sound : goal.returns-clause-sound
+returns-clause-sound c =
+    let all = met_all c.met-queued.ensures (omega (arith, c.count.ensures.value, c.if-count-size.false)) in
     record {
-      same = rw (held_none locks z c.if-held-ne0.false, ← all, le-ltb (length (list_of q.result)) (a.size - 1) (omega (arith, length-list q.result, c.if-queued-size.false)));
-      shown = rw (held_none locks z c.if-held-ne0.false, ← all, le-ltb (length (list_of q.result)) (a.size - 1) (omega (arith, length-list q.result, c.if-queued-size.false))) z;
-      sound = wakes-nobody refl refl m.good (met-below m c.requires.2) (omega (arith, met-short m)) (λ y. all) (λ y. clash y);
+      below = met-below c.met-queued.ensures c.requires;
+      few = omega (arith, met-short c.met-queued.ensures);
+      all = λ ws e. cc;
+      away = λ w e. cc;
     }

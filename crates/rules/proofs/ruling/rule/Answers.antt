@@ -1,28 +1,26 @@
-use native.Mathlib.Omega.{arith}
-use Rattle.rules.proofs.Rulings.{by-lock, by-unlock, by-wait, by-signal, by-barrier, by-exit, by-start, signal-left}
+use Rattle.std.proofs.Common.{arith}
+use Rattle.protocol.proofs.Points.{from_first}
+use Rattle.rules.proofs.Rulings.{by-lock, by-unlock, by-wait, by-signal, by-barrier, by-exit, by-start}
 use Rattle.rules.proofs.ruling.rule.Goals as goal
 
-pub returns-then-op-eq-LOCK : goal.returns-then-op-eq-LOCK
-returns-then-op-eq-LOCK c = λ locks s. by-lock c.if-op-eq-LOCK.true (c.lock.ensures locks s _ _ _ _)
+pub returns-in-32 : goal.returns-in-32
+returns-in-32 c = λ locks s. by-lock c.in-32.is s c.lock.ensures.means c.lock.ensures.calm
 
-pub returns-then-op-eq-UNLOCK : goal.returns-then-op-eq-UNLOCK
-returns-then-op-eq-UNLOCK c = λ locks s. by-unlock c.if-op-eq-UNLOCK.true (c.unlock.ensures locks s _ _ _ _)
+pub returns-in-33 : goal.returns-in-33
+returns-in-33 c = λ locks s. by-unlock c.in-33.is s c.unlock.ensures.means c.unlock.ensures.calm
 
-pub returns-then-op-eq-WAIT : goal.returns-then-op-eq-WAIT
-returns-then-op-eq-WAIT c = λ locks s. by-wait c.if-op-eq-WAIT.true (c.wait.ensures locks s _ _ _ _)
+pub returns-in-34 : goal.returns-in-34
+returns-in-34 c = λ locks s. by-wait c.in-34.is s c.wait.ensures.means c.wait.ensures.calm
 
-pub returns-then-op-eq-BARRIER : goal.returns-then-op-eq-BARRIER
-returns-then-op-eq-BARRIER c = λ locks s. by-barrier c.if-op-eq-BARRIER.true (c.barrier.ensures locks s _)
+pub returns-in-37 : goal.returns-in-37
+returns-in-37 c = λ locks s. by-barrier c.in-37.is s c.barrier.ensures.means c.barrier.ensures.sound
 
-pub returns-then-op-eq-EXIT : goal.returns-then-op-eq-EXIT
-returns-then-op-eq-EXIT c = λ locks s. by-exit (omega (arith, c.if-op-eq-EXIT.true)) (c.exit.ensures locks s _ _ _ _)
+pub returns-in-38 : goal.returns-in-38
+returns-in-38 c = λ locks s. by-exit c.in-38.is s c.exit.ensures.means c.exit.ensures.calm
 
-pub returns-then-op-eq-START : goal.returns-then-op-eq-START
-returns-then-op-eq-START c = λ locks s. by-start (omega (arith, c.if-op-eq-START.true)) (c.start.ensures locks s)
+pub returns-in-39 : goal.returns-in-39
+returns-in-39 c = λ locks s. by-start c.in-39.is s c.start.ensures
 
-pub returns : goal.returns
-returns c = λ locks z.
-    by-signal
-    (signal-left c.args.op c.requires.0.syncs c.requires.0.last c.requires.1 c.if-op-eq-LOCK.false c.if-op-eq-UNLOCK.false
-    c.if-op-eq-WAIT.false c.if-op-eq-BARRIER.false c.if-op-eq-EXIT.false c.if-op-eq-START.false)
-    (c.signal.ensures locks z _ _)
+pub returns-in_default : goal.returns-in_default
+returns-in_default c = λ locks s.
+    by-signal (omega (arith, from_first c.requires.0.syncs, c.requires.0.last, c.requires.1)) s c.signal.ensures.means c.signal.ensures.sound

@@ -1,0 +1,30 @@
+// A worker's fate. It is kept as its code, by which those who wait are found.
+ghost use Rattle.std.specs.Prelude.{◌≡◌};
+ghost use Rattle.rules.specs.Codes.{fate_code, fate_of};
+
+use format::fates::{ASLEEP, AT_BARRIER, EXITED, FAILED, GOING, ON_CONDITION};
+
+#[derive(Clone, Copy)]
+pub enum Fate {
+    Going,
+    Exited,
+    Failed,
+    Asleep,
+    OnCondition(u16),
+    AtBarrier(u16),
+}
+
+impl Fate {
+    pub fn code(self) -> u64
+        ensures { result ≡ fate_code (fate_of self) }
+    {
+        match self {
+            Fate::Going => GOING,
+            Fate::Exited => EXITED,
+            Fate::Failed => FAILED,
+            Fate::Asleep => ASLEEP,
+            Fate::OnCondition(c) => ON_CONDITION + 2 * (c as u64),
+            Fate::AtBarrier(b) => AT_BARRIER + 2 * (b as u64),
+        }
+    }
+}
