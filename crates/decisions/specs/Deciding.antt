@@ -3,7 +3,6 @@ use Rattle.std.specs.Prelude.{ℕ, ◌+◌, ◌≤◌, ◌≡◌, List, length}
 use Rattle.protocol.specs.Format.{workers_limit}
 use Rattle.protocol.specs.Rounds as rounds
 use Rattle.locks.specs.Set.{Shows}
-use Rattle.queue.specs.List.{list_of}
 use Rattle.decisions.specs.declared.decision.Decision.{Decision}
 use Rattle.decisions.specs.declared.lists.Lists.{Lists}
 use Rattle.rules.specs.Codes.{uncommitted_of}
@@ -18,7 +17,7 @@ pub record Deciding (op number h held : ℕ) (lists : Lists) (fates : List ℕ) 
   pub holding : HolderLists h lists fates
   -- a sleeper that the step starts is in none of the lists
   pub total :
-      length (list_of lists.list) + length (list_of lists.next) + length (list_of lists.waiting) + called_by op number fates ≤ workers_limit
+      length lists.list + length lists.next + length lists.waiting + called_by op number fates ≤ workers_limit
 
 -- a ruling of the definitions, as a decision, with the lists and the fates after it
 pub record CarriedOut (lists : Lists) (fates : List ℕ) (is : rounds.Ruling) (h : ℕ) (d : Decision) (fates' : List ℕ) : Type 0 where

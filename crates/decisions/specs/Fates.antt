@@ -1,18 +1,9 @@
 -- What settling the fates takes and ensures.
-use Rattle.std.specs.Prelude.{ℕ, ◌<◌, Bool, true, false, cond, ◌≡◌, List, ◌++◌, eqb, length, get_or}
+use Rattle.std.specs.Prelude.{ℕ, cond, ◌≡◌, List, ◌++◌, eqb, length, get_or}
 use Rattle.protocol.specs.Format.{workers_limit}
 use Rattle.protocol.specs.Rounds as rounds
 use Rattle.protocol.specs.Rounds.{member, fate_after}
-use Rattle.queue.specs.declared.Queue.{Queue}
-use Rattle.queue.specs.List.{list_of, Good, Below}
 use Rattle.rules.specs.Codes.{fate_code}
-
-pub record Freeing (wakes joins starts : Bool) (queued : Queue) : Type 0 where
-  pub good : Good queued
-  pub below : Below workers_limit (list_of queued)
-  pub some : wakes ≡ true → 0 < length (list_of queued)
-  pub apart : wakes ≡ true → joins ≡ false
-  pub one : starts ≡ true → (wakes ≡ false) × (length (list_of queued) ≡ 1)
 
 -- the holder has its new fate, those whom the step moves are going, and the others stay as they were
 pub record FatesSettled (before : List ℕ) (is : rounds.Ruling) (h : ℕ) (after : List ℕ) : Type 0 where

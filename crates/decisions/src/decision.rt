@@ -5,10 +5,10 @@ ghost use Rattle.decisions.specs.Deciding.{Deciding, Decided};
 
 use crate::broadcast::broadcast;
 use crate::fates::settle_fates;
-use crate::lists::{Lists, moved};
-use format::fates::AT_BARRIER;
+use crate::lists::Lists;
 use format::limits::{BARRIER_COUNT, WORKERS_LIMIT};
 use format::ops;
+use rules::fate::Fate;
 use rules::ruling::{Uncommitted, rule};
 
 #[derive(Clone, Copy)]
@@ -33,16 +33,14 @@ pub fn decide(
     ensures { (locks : List ℕ) → Shows held locks → Decided op number h locks sizes.now lists fates.old result fates.new }
 {
     if op == ops::BROADCAST {
-        return broadcast(number as u64, h, held, lists, fates);
+        return broadcast(number, h, held, lists, fates);
     }
-    let waiting = lists.waiting;
-    let ruling = rule(op, number, held, sizes, waiting, fates);
-    let code = AT_BARRIER + 2 * (number as u64);
-    let after = moved(lists, ruling, h as u64, fates, code);
-    settle_fates(fates, ruling, h);
-    let bytes = ruling.bytes;
+    let ruling = rule(op, number, held, sizes, lists.waiting, fates);
+    let code = Fate::AtBarrier(number).code();
+    let after = lists.carry_out(&ruling, h as u64, fates, code);
+    settle_fates(fates, &ruling, h);
     Decision {
-        bytes,
+        bytes: ruling.bytes,
         held: ruling.held,
         outcome: ruling.outcome,
         lists: after,

@@ -1,16 +1,16 @@
 // Where a ruling moves workers between the three lists.
-ghost use Rattle.std.specs.Prelude.{true, ◌||◌, ◌≡◌, List, ◌++◌, ℕ, ◌+◌, ◌≤◌, ◌<◌, length, drop};
+ghost use Rattle.std.specs.Prelude.{◌≡◌, List, ◌++◌, ℕ, ◌+◌, ◌<◌, length, drop};
 ghost use Rattle.protocol.specs.Format.{workers_limit};
 ghost use Rattle.protocol.specs.Rounds.{stays_in, joins_next, joins_waiting, without};
-ghost use Rattle.queue.specs.List.{list_of, Good, Holds};
+ghost use Rattle.queue.specs.List.{Below};
 ghost use Rattle.rules.specs.Codes.{goes_of};
-ghost use Rattle.rules.specs.Rules.{woken_of, joined_of, ruling_of};
+ghost use Rattle.rules.specs.Rules.{woken_of, joined_of, moved_of, ruling_of};
 ghost use Rattle.decisions.specs.Moves.{Relisting, Parting, ListsMoving, ListsMoved};
 
-use format::fates::ON_CONDITION;
 use format::limits::WORKERS_LIMIT;
 use queue::Queue;
-use rules::ruling::{Goes, Ruling};
+use rules::fate::Fate;
+use rules::ruling::{Goes, Moves, Ruling};
 
 // This round's list, the next one's, and those who wait.
 #[derive(Clone, Copy)]
@@ -20,118 +20,72 @@ pub struct Lists {
     pub waiting: Queue,
 }
 
-// The woken worker in front.
-fn wake(rest: Queue, wakes: bool, queued: Queue) -> Queue
-    requires { Good rest × (length (list_of rest) < workers_limit) × (wakes ≡ true → 0 < length (list_of queued)) }
-    ensures { Holds result (woken_of wakes (list_of queued) ++ list_of rest) }
+// The woken worker in front, and before it the holder, if it keeps the token.
+fn list_after(list: Queue, moves: Moves, goes: Goes, h: u64) -> Queue
+    requires { Relisting list moves h }
+    ensures { result ≡ stays_in (goes_of goes) h ++ (woken_of moves ++ drop 1 list) }
 {
-    if wakes {
-        return Queue::one(queued.first()).append(rest);
-    }
-    rest
-}
-
-pub fn list_after(list: Queue, goes: Goes, wakes: bool, queued: Queue, h: u64) -> Queue
-    requires { Relisting list wakes queued h }
-    ensures { Holds result (stays_in (goes_of goes) h ++ (woken_of wakes (list_of queued) ++ drop 1 (list_of list))) }
-{
-    let behind = wake(list.rest(), wakes, queued);
+    let rest = list.rest();
+    let behind = match moves {
+        Moves::Wakes(w) => rest.cons(w),
+        Moves::Nobody | Moves::Joins(_) | Moves::Starts(_) => rest,
+    };
     match goes {
         Goes::Keeps => behind.cons(h),
-        Goes::Gives => behind,
-        Goes::Leaves(_) => behind,
+        Goes::Gives | Goes::Leaves(_) => behind,
     }
 }
 
-// The queued workers or the sleeper behind.
-fn join(next: Queue, joins: bool, starts: bool, queued: Queue) -> Queue
-    requires { Good next × Good queued × (length (list_of next) + length (list_of queued) ≤ workers_limit) }
-    ensures { Holds result (list_of next ++ joined_of (joins || starts) (list_of queued)) }
+// Those who join it behind, and last the holder, if it gives up the token.
+fn next_after(next: Queue, moves: Moves, goes: Goes, h: u64) -> Queue
+    requires { (length next + length (joined_of moves) < workers_limit) × Below workers_limit (joined_of moves) × (h < 16) }
+    ensures { result ≡ next ++ (joined_of moves ++ joins_next (goes_of goes) h) }
 {
-    if joins {
-        return next.append(queued);
-    }
-    if starts {
-        return next.append(queued);
-    }
-    next
-}
-
-pub fn next_after(
-    next: Queue,
-    joins: bool,
-    starts: bool,
-    queued: Queue,
-    goes: Goes,
-    h: u64,
-) -> Queue
-    requires { Good next × Good queued × (length (list_of next) + length (list_of queued) < workers_limit) × (h < 16) }
-    ensures { Holds result (list_of next ++ (joined_of (joins || starts) (list_of queued) ++ joins_next (goes_of goes) h)) }
-{
-    let joined = join(next, joins, starts, queued);
+    let joined = match moves {
+        Moves::Joins(queued) => next.append(queued),
+        Moves::Starts(w) => next.push(w),
+        Moves::Nobody | Moves::Wakes(_) => next,
+    };
     match goes {
-        Goes::Keeps => joined,
-        Goes::Gives => joined.append(Queue::one(h)),
-        Goes::Leaves(_) => joined,
+        Goes::Gives => joined.push(h),
+        Goes::Keeps | Goes::Leaves(_) => joined,
     }
 }
 
-// Those who go on waiting: where the queued join, they are those whose fate's code is the key.
-fn stay(
-    waiting: Queue,
-    wakes: bool,
-    joins: bool,
-    queued: Queue,
-    fates: &[u64; WORKERS_LIMIT],
-    code: u64,
-) -> Queue
-    requires { Parting waiting wakes joins queued fates.now code }
-    ensures { Holds result (without (woken_of wakes (list_of queued) ++ joined_of joins (list_of queued)) (list_of waiting)) }
+// Those who go on waiting. Where some join the next list, they are those whose fate's code is the key.
+fn stay(waiting: Queue, moves: Moves, fates: &[u64; WORKERS_LIMIT], code: u64) -> Queue
+    requires { Parting waiting moves fates.now code }
+    ensures { result ≡ without (moved_of moves) waiting }
 {
-    if joins {
-        return waiting.reject(fates, code);
+    match moves {
+        Moves::Wakes(w) => waiting.remove(w),
+        Moves::Joins(_) => waiting.reject(fates, code),
+        Moves::Nobody | Moves::Starts(_) => waiting,
     }
-    if wakes {
-        return waiting.remove(queued.first());
-    }
-    waiting
 }
 
-// A holder that leaves to wait, which its fate's code says, is the last to wait.
+// A holder that leaves to wait is the last to wait.
 fn wait_last(waiting: Queue, goes: Goes, h: u64) -> Queue
-    requires { Good waiting × (length (list_of waiting) < workers_limit) × (h < 16) }
-    ensures { Holds result (list_of waiting ++ joins_waiting (goes_of goes) h) }
+    requires { (length waiting < workers_limit) × (h < 16) }
+    ensures { result ≡ waiting ++ joins_waiting (goes_of goes) h }
 {
     match goes {
-        Goes::Keeps => waiting,
-        Goes::Gives => waiting,
-        Goes::Leaves(k) => if k < ON_CONDITION {
-            waiting
-        } else {
-            waiting.push(h)
-        },
+        Goes::Leaves(Fate::OnCondition(_) | Fate::AtBarrier(_)) => waiting.push(h),
+        Goes::Leaves(Fate::Going | Fate::Exited | Fate::Failed | Fate::Asleep) => waiting,
+        Goes::Keeps | Goes::Gives => waiting,
     }
 }
 
-// The three lists after the holder h's step. The key is the code of those who wait at the step's barrier.
-pub fn moved(lists: Lists, r: Ruling, h: u64, fates: &[u64; WORKERS_LIMIT], code: u64) -> Lists
-    requires { ListsMoving lists r h fates.now code }
-    ensures { (locks : List ℕ) → ListsMoved lists (ruling_of r locks) h result }
-{
-    let queued = r.queued;
-    let goes = r.goes;
-    let wakes = r.wakes;
-    let joins = r.joins;
-    let old = lists.list;
-    let later = lists.next;
-    let waits = lists.waiting;
-    let list = list_after(old, goes, wakes, queued, h);
-    let next = next_after(later, joins, r.starts, queued, goes, h);
-    let left = stay(waits, wakes, joins, queued, fates, code);
-    let waiting = wait_last(left, goes, h);
-    Lists {
-        list,
-        next,
-        waiting,
+impl Lists {
+    // The lists after the step of the holder h by this ruling. The key is the code of those who wait at the step's barrier.
+    pub fn carry_out(self, r: &Ruling, h: u64, fates: &[u64; WORKERS_LIMIT], code: u64) -> Lists
+        requires { ListsMoving self r.now.moves h fates.now code }
+        ensures { (locks : List ℕ) → ListsMoved self (ruling_of r.now locks) h result }
+    {
+        Lists {
+            list: list_after(self.list, r.moves, r.goes, h),
+            next: next_after(self.next, r.moves, r.goes, h),
+            waiting: wait_last(stay(self.waiting, r.moves, fates, code), r.goes, h),
+        }
     }
 }

@@ -1,8 +1,6 @@
 -- `decide` meets its contract: what the ruling promises is what the moves between the lists and the fates ask.
-use native.Mathlib.Omega.{arith}
-use mathlib.Core.Path.{refl}
+use Rattle.std.proofs.Common.{refl}
 use Rattle.protocol.specs.Rounds.{broadcast_rule}
-use Rattle.queue.specs.List.{list_of}
 use Rattle.rules.specs.Codes.{condition_code}
 use Rattle.rules.specs.Rules.{found, ruling_of}
 use Rattle.rules.proofs.Rulings.{by-broadcast}
@@ -12,8 +10,8 @@ pub returns-then-op-eq-BROADCAST : goal.returns-then-op-eq-BROADCAST
 returns-then-op-eq-BROADCAST c = λ locks z.
     let a = c.args in
     record {
-      is = broadcast_rule (found a.fates.now (list_of a.lists.waiting) (condition_code a.number)) locks;
-      ruled = by-broadcast (omega (arith, c.if-op-eq-BROADCAST.true)) a.number locks a.sizes.now a.lists.waiting a.fates.now;
+      is = broadcast_rule (found a.fates.now a.lists.waiting (condition_code a.number)) locks;
+      ruled = by-broadcast c.if-op-eq-BROADCAST.true a.number locks a.sizes.now a.lists.waiting a.fates.now;
       carried = c.broadcast.ensures locks z;
     }
 
@@ -25,5 +23,5 @@ returns c = λ locks z.
     record {
       is = ruling_of rule.result after;
       ruled = ruled.same;
-      carried = record { bytes = refl; held = ruled.shown; outcome = refl; moved = c.moved-after.ensures after; settled = c.settle_fates.ensures after };
+      carried = record { bytes = refl; held = ruled.shown; outcome = refl; moved = c.carry_out-after.ensures after; settled = c.settle_fates.ensures after };
     }

@@ -1,15 +1,14 @@
-use mathlib.Core.Path.{refl}
-use lib.Dec.{eqb}
-use lib.ListN.{get_or}
-use Rattle.queue.specs.List.{list_of}
-use Rattle.decisions.proofs.Moving.{keep_all, without-kept, not-both}
+use Rattle.std.proofs.Common.{eqb, get_or, inl, inr}
+use Rattle.decisions.proofs.Moving.{keep_all, without-kept, without-other}
 use Rattle.decisions.proofs.lists.stay.Goals as goal
 
-pub returns-then-joins : goal.returns-then-joins
-returns-then-joins c = let a = c.args in
-    let joins = c.if-joins.true in
-    rw (not-both a.wakes a.joins c.requires.apart joins, joins, c.requires.queue joins, without-kept (λ w. eqb (get_or a.fates.now w 0) a.code) (list_of a.waiting))
-    c.reject.ensures
+pub returns-in-Joins : goal.returns-in-Joins
+returns-in-Joins c =
+    rw (c.reject.ensures, c.in-Joins.is, c.requires.all _ c.in-Joins.is, without-kept (λ w. eqb (get_or c.args.fates.now w 0) c.args.code) c.args.waiting)
 
-pub returns : goal.returns
-returns c = rw (c.if-wakes.false, c.if-joins.false, keep_all) record { good = c.requires.good; list = refl }
+pub returns-in-Nobody : goal.returns-in-Nobody
+returns-in-Nobody c =
+    elim c.in-Nobody.is [
+      | inl e ↦ rw (e, keep_all)
+      | inr e ↦ rw (e.1, without-other e.0 c.args.waiting (c.requires.away e.0 e.1))
+    ]

@@ -4,6 +4,7 @@ use Rattle.protocol.specs.Format.{by_name}
 use Rattle.protocol.specs.Rounds.{remove}
 use Rattle.protocol.proofs.Bools.{not-false}
 use Rattle.protocol.proofs.Locks.{unlocked-fewer}
+use Rattle.locks.proofs.Sets.{shows_by}
 use Rattle.rules.proofs.ruling.unlock.Goals as goal
 
 pub overflow_cast-result : goal.overflow_cast-result
@@ -11,4 +12,5 @@ overflow_cast-result c =
     let held = c.requires.1 in
     let k = c.args.k in
     let here = sym (c.holds.ensures held.locks held.shown) ∙ not-false _ (search rules) in
-    omega (arith, c.count.ensures (remove k held.locks) (c.without-left.ensures held.locks held.shown here), unlocked-fewer by_name k held.locks, held.few)
+    let left = shows_by (c.without-left.ensures held.locks held.shown here) (omega arith) in
+    omega (arith, c.count.ensures (remove k held.locks) left, unlocked-fewer by_name k held.locks, held.few)
