@@ -25,7 +25,9 @@ use Rattle.queue.specs.List.{list_of}
 use Rattle.queue.proofs.Laws.{below-first}
 use Rattle.engine.specs.declared.state.Schedule.{Schedule}
 use Rattle.engine.specs.declared.state.Reached.{Reached}
+use Rattle.engine.specs.declared.state.Engine.{Engine}
 use Rattle.engine.specs.Kept.{Kept}
+use Rattle.engine.specs.Kept.{kept_of, kept_own}
 use Rattle.engine.specs.Refines.{Refines}
 use Rattle.engine.specs.Moving.{Syncing, Synced}
 use Rattle.engine.specs.Turning.{RoundBegun, Playing, Turning, Stopped, Turned, Onward, Again, moves_as, Over, PlayedOut}
@@ -120,8 +122,9 @@ module _ {file : List ℕ} {n : ℕ} {sizes firsts first turns : List ℕ} {whol
           ap {B = ℕ} (λ (b : Bool). cond b 0 1)
           (ap (λ (v : ℕ). get_or can v false) (ap (λ (m : ℕ). get_or turns m 0) at ∙ (p.stretches e).first w small) ∙ able.able small)
 
-  module _ {i : ℕ} {t : Schedule} (k : List ℕ → List ℕ → Kept) (fates log' : List ℕ) (s : PlayedSoFar file turns whole memory i t (k fates log')) where
-    unfoldable pub turning : Turning file firsts turns i t.counts.moves k
+  -- the turns up to one that synchronises
+  module _ {i : ℕ} {t : Schedule} {g : Engine} {memory' log' work' : List ℕ} (s : PlayedSoFar file turns whole memory i t (kept_of g memory' log' work')) where
+    unfoldable pub turning : Turning file firsts turns i t.counts.moves (kept_own g memory' work')
     turning =
         record {
           sizes = sizes;
@@ -131,35 +134,26 @@ module _ {file : List ℕ} {n : ℕ} {sizes firsts first turns : List ℕ} {whol
           before = s.played;
           schedule = t;
           counted = refl;
-          fates = fates;
+          fates = g.fates;
           log = log';
           refines = s.refines;
         }
 
-    module _ {r : Reached} {k' : List ℕ → List ℕ → Kept} (u : Turned file firsts turns i t.counts.moves k r k') where
-      unfoldable pub went_on : PlayedSoFar file turns whole memory r.turn (moves_as t r.moves) (k' fates log')
-      unfolding turning
-      went_on =
-          record {
-            within = u.within;
-            played = s.played ++ slice i r.turn turns;
-            listed = λ e. ap (λ (us : List ℕ). us ++ slice i r.turn turns) (s.listed e) ∙ taken turns i r.turn u.forward;
-            refines = u.refines turning;
-          }
-
+    module _ {r : Reached} (g' : Engine) {work'' : List ℕ}
+        (u : Turned file firsts turns i t.counts.moves (kept_own g memory' work') r (kept_own g' memory' work'')) where
       -- no move is taken back
       same-moves : (play (plan_of file) (played_from (plan_of file) memory s.played) (slice i r.turn turns)).moves ≡ r.moves
-      unfolding went_on
+      unfolding turning
       same-moves =
           ap (λ (q : State). q.moves) (sym (play-append (plan_of file) (start (plan_of file) memory) s.played (slice i r.turn turns)))
-          ∙ went_on.refines.moves
+          ∙ (u.refines turning).moves
 
       pub no-fewer : t.counts.moves ≤ r.moves
       no-fewer =
           omega (arith, play-keeps (plan_of file) (played_from (plan_of file) memory s.played) (slice i r.turn turns), same-moves, s.refines.moves)
 
       -- and the first turn adds one, where it can move
-      pub one-at-least : i < r.turn → get_or (k fates log').can (get_or turns i 0) false ≡ true → t.counts.moves < r.moves
+      pub one-at-least : i < r.turn → get_or g.can (get_or turns i 0) false ≡ true → t.counts.moves < r.moves
       one-at-least l e =
           omega (
             arith,
@@ -169,6 +163,20 @@ module _ {file : List ℕ} {n : ℕ} {sizes firsts first turns : List ℕ} {whol
             same-moves,
             s.refines.moves,
           )
+
+      module _ (same : g'.fates ≡ g.fates) where
+        unfoldable pub went_on : PlayedSoFar file turns whole memory r.turn (moves_as t r.moves) (kept_of g' memory' log' work'')
+        unfolding turning
+        went_on =
+            record {
+              within = u.within;
+              played = s.played ++ slice i r.turn turns;
+              listed = λ e. ap (λ (us : List ℕ). us ++ slice i r.turn turns) (s.listed e) ∙ taken turns i r.turn u.forward;
+              refines =
+                  subst⁻¹ (λ (fates : List ℕ). Shown (s.played ++ slice i r.turn turns) (moves_as t r.moves) (kept_own g' memory' work'' fates log'))
+                  same
+                  (u.refines turning);
+            }
 
   module _ {i : ℕ} {t : Schedule} {k : Kept} (s : PlayedSoFar file turns whole memory i t k) where
     -- at a turn that synchronises
@@ -248,14 +256,16 @@ module _ {file : List ℕ} {n : ℕ} {sizes firsts first turns : List ℕ} {whol
                 false≢true (sym (nobody f l w small) ∙ s.refines.lists.able w small ∙ able)
 
   -- the turns up to one that synchronises, and that one
-  module _ {i : ℕ} {t t' : Schedule} (k : List ℕ → List ℕ → Kept) (fates log' : List ℕ) {r : Reached} {k' : List ℕ → List ℕ → Kept} {k'' : Kept}
-      (s : PlayedSoFar file turns whole memory i t (k fates log')) (u : Turned file firsts turns i t.counts.moves k r k') (l : r.turn < length turns)
-      (done : Synced r.step (get_or turns r.turn 0) (moves_as t r.moves) sizes (k' fates log') t' k'') where
+  module _ {i : ℕ} {t t' : Schedule} {g g' : Engine} {memory' log' work' work'' : List ℕ} {r : Reached} {k'' : Kept}
+      (s : PlayedSoFar file turns whole memory i t (kept_of g memory' log' work'))
+      (u : Turned file firsts turns i t.counts.moves (kept_own g memory' work') r (kept_own g' memory' work''))
+      (same : g'.fates ≡ g.fates) (l : r.turn < length turns)
+      (done : Synced r.step (get_or turns r.turn 0) (moves_as t r.moves) sizes (kept_of g' memory' log' work'') t' k'') where
     pub stands_on : PlayedSoFar file turns whole memory (r.turn + 1) t' k''
-    stands_on = synced (went_on k fates log' s u) l (u.stopped l fates log') done
+    stands_on = synced (went_on s g' u same) l (u.stopped l g'.fates log') done
 
     pub rises-on : t.counts.moves < t'.counts.moves
-    rises-on = omega (arith, one_more (went_on k fates log' s u) l (u.stopped l fates log') done, no-fewer k fates log' s u)
+    rises-on = omega (arith, one_more (went_on s g' u same) l (u.stopped l g'.fates log') done, no-fewer s g' u)
 
   -- the first of the list, where it is not empty
   pub first_small : {i : ℕ} {t : Schedule} {k : Kept} → PlayedSoFar file turns whole memory i t k → 0 < length (list_of t.lists.list)

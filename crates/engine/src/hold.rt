@@ -7,23 +7,22 @@ ghost use Rattle.protocol.specs.Sum.{sum_of};
 ghost use Rattle.journal.specs.Bytes.{entry_as};
 ghost use Rattle.writer.specs.Appended.{Appending};
 ghost use Rattle.pages.specs.Copies.{Lent};
-ghost use Rattle.engine.specs.Kept.{kept};
+ghost use Rattle.engine.specs.Kept.{kept_of};
 ghost use Rattle.engine.specs.Holding.{BytesSettled};
 ghost use Rattle.engine.specs.Moving.{Syncing, Synced};
 
-use crate::state::Schedule;
+use crate::state::{Engine, Schedule};
 use commits::commit;
 use decisions::decision::decide;
 use decisions::lists::Lists;
-use format::limits::{BARRIER_COUNT, WORKERS_LIMIT};
+use format::limits::BARRIER_COUNT;
 use journal::log::packed;
 use journal::report::Counts;
 use pages::{SLOTS, discard};
 use plan::decode::Record;
 use rules::ruling::Uncommitted;
 use token::turn_over;
-use worker::Worker;
-use writer::append_record;
+use writer::LogWriter;
 
 // The holder's copies: kept, committed to shared memory, or lost. The sum of shared memory's words, moved by a commit.
 fn settle_bytes(
@@ -63,70 +62,50 @@ fn record_step(
 {
     let round = (rounds + 1) as u16;
     let entry = packed(round, h as u8, r.op, r.number as u8, outcome);
-    append_record(log, records, entry)
+    let mut writer = LogWriter { log, records };
+    writer.append(entry);
+    writer.records
 }
 
-// The holder w's step: decided, then written.
-pub fn hold(
-    r: Record,
-    w: usize,
-    t: Schedule,
-    sizes: &[u8; BARRIER_COUNT],
-    places: &mut [usize; WORKERS_LIMIT],
-    held: &mut [u64; WORKERS_LIMIT],
-    registers: &[u64; WORKERS_LIMIT],
-    fates: &mut [u64; WORKERS_LIMIT],
-    can: &mut [bool; WORKERS_LIMIT],
-    copied: &mut [bool; SLOTS],
-    memory: &mut [u8],
-    log: &mut [u8],
-    work: &[u8],
-) -> Schedule
-    requires { (t.away ≡ 0)
-        × Syncing r w t sizes.now
-        (kept places.old held.old registers.now fates.old can.old copied.old memory.old log.old work.now) }
-    ensures { Synced r w t sizes.now
-        (kept places.old held.old registers.now fates.old can.old
-        copied.old memory.old log.old work.now)
-        result
-        (kept places.new held.new registers.now fates.new can.new
-        copied.new memory.new log.new work.now) }
-{
-    let locks = held[w];
-    let lists = t.lists;
-    let counts = t.counts;
-    let d = decide(r.op, r.number, w, locks, sizes, lists, fates);
-    let after = d.lists;
-    let bytes = d.bytes;
-    let v = Worker {
-        place: places[w],
-        held: locks,
-        registers: registers[w],
-    };
-    let stepped = v.synchronise(d.held, d.outcome);
-    let v = stepped.worker;
-    let moved = settle_bytes(bytes, w, memory, work, copied, t.sum);
-    let records = record_step(r, w, stepped.outcome, counts.rounds, counts.records, log);
-    places[w] = v.place;
-    held[w] = v.held;
-    let list = after.list;
-    let next = after.next;
-    let waiting = after.waiting;
-    let round = turn_over(list, next, w, counts.rounds, can);
-    let here = round.list;
-    let later = round.next;
-    Schedule {
-        lists: Lists {
-            list: here,
-            next: later,
-            waiting,
-        },
-        away: round.away,
-        counts: Counts {
-            moves: counts.moves + 1,
-            rounds: round.rounds,
-            records,
-        },
-        sum: moved,
+impl Engine {
+    // The holder w's step: decided, then written.
+    pub fn hold(
+        &mut self,
+        r: Record,
+        w: usize,
+        t: Schedule,
+        sizes: &[u8; BARRIER_COUNT],
+        memory: &mut [u8],
+        log: &mut [u8],
+        work: &[u8],
+    ) -> Schedule
+        requires { (t.away ≡ 0) × Syncing r w t sizes.now (kept_of self.old memory.old log.old work.now) }
+        ensures { Synced r w t sizes.now (kept_of self.old memory.old log.old work.now) result (kept_of self.new memory.new log.new work.now) }
+    {
+        let locks = self.held[w];
+        let counts = t.counts;
+        let d = decide(r.op, r.number, w, locks, sizes, t.lists, &mut self.fates);
+        let after = d.lists;
+        let stepped = self.worker(w).synchronise(d.held, d.outcome);
+        let v = stepped.worker;
+        let sum = settle_bytes(d.bytes, w, memory, work, &mut self.copied, t.sum);
+        let records = record_step(r, w, stepped.outcome, counts.rounds, counts.records, log);
+        self.places[w] = v.place;
+        self.held[w] = v.held;
+        let round = turn_over(after.list, after.next, w, counts.rounds, &mut self.can);
+        Schedule {
+            lists: Lists {
+                list: round.list,
+                next: round.next,
+                waiting: after.waiting,
+            },
+            away: round.away,
+            counts: Counts {
+                moves: counts.moves + 1,
+                rounds: round.rounds,
+                records,
+            },
+            sum,
+        }
     }
 }

@@ -5,9 +5,7 @@ ghost use Rattle.protocol.specs.Calls.{memory_length};
 ghost use Rattle.engine.specs.Turning.{RoundBegun, Playing, PlayedOut};
 
 use crate::onward::{again, onward};
-use crate::own::play_own;
-use crate::state::{Played, Schedule};
-use crate::sync::sync;
+use crate::state::{Engine, Played, Schedule};
 use commits::sum::whole_sum;
 use decisions::lists::Lists;
 use format::fates::GOING;
@@ -17,35 +15,30 @@ use pages::SLOTS;
 use queue::Queue;
 use token::raise;
 
-// Round 1 of n workers: all of them who are awake are in its list, and can move. The sum of shared memory's words is worked out here and
-// nowhere else.
-fn first_round(
-    n: u64,
-    fates: &[u64; WORKERS_LIMIT],
-    can: &mut [bool; WORKERS_LIMIT],
-    memory: &[u8],
-) -> Schedule
-    requires { (n ≤ workers_limit) × (length memory.now ≡ memory_length) }
-    ensures { RoundBegun n fates.now can.old memory.now result can.new }
-{
-    let list = Queue::among(n, fates, GOING);
-    let next = Queue::empty();
-    let waiting = Queue::empty();
-    raise(can, list);
-    let lists = Lists {
-        list,
-        next,
-        waiting,
-    };
-    Schedule {
-        lists,
-        away: list.count(),
-        counts: Counts {
-            moves: 0,
-            rounds: 0,
-            records: 0,
-        },
-        sum: whole_sum(memory),
+impl Engine {
+    // Round 1 of n workers: all of them who are awake are in its list, and can move. The sum of shared memory's words is worked out here and
+    // nowhere else.
+    fn first_round(&mut self, n: u64, memory: &[u8]) -> Schedule
+        requires { (n ≤ workers_limit) × (length memory.now ≡ memory_length) }
+        ensures begun { RoundBegun n self.old.fates self.old.can memory.now result self.new.can }
+        ensures others { self.new ≡ record self.old { can = self.new.can } }
+    {
+        let list = Queue::among(n, &self.fates, GOING);
+        raise(&mut self.can, list);
+        Schedule {
+            lists: Lists {
+                list,
+                next: Queue::empty(),
+                waiting: Queue::empty(),
+            },
+            away: list.count(),
+            counts: Counts {
+                moves: 0,
+                rounds: 0,
+                records: 0,
+            },
+            sum: whole_sum(memory),
+        }
     }
 }
 
@@ -66,61 +59,39 @@ pub fn play(
     requires { Playing file.now n sizes.now firsts.now first turns.now whole memory.old log.old work.old }
     ensures { PlayedOut file.now turns.now whole memory.old result memory.new log.new work.new }
 {
-    let mut places = [0usize; WORKERS_LIMIT];
-    let mut held = [0u64; WORKERS_LIMIT];
-    let mut registers = [0u64; WORKERS_LIMIT];
-    let mut fates = first;
-    let mut can = [false; WORKERS_LIMIT];
-    let mut copied = [false; SLOTS];
-    let mut t = first_round(n as u64, &fates, &mut can, memory);
+    let mut engine = Engine {
+        places: [0; WORKERS_LIMIT],
+        held: [0; WORKERS_LIMIT],
+        registers: [0; WORKERS_LIMIT],
+        fates: first,
+        can: [false; WORKERS_LIMIT],
+        copied: [false; SLOTS],
+    };
+    let mut t = engine.first_round(n as u64, memory);
     let mut i = 0;
     while i < turns.len() {
-        let own = play_own(
-            file,
-            firsts,
-            turns,
-            i,
-            t.counts.moves,
-            &can,
-            &mut places,
-            &held,
-            &mut registers,
-            &mut copied,
-            memory,
-            work,
-        );
+        let own = engine.own(file, firsts, turns, i, t.counts.moves, memory, work);
         i = own.turn;
-        let mut counts = t.counts;
-        counts.moves = own.moves;
-        t.counts = counts;
+        t.counts.moves = own.moves;
         if i < turns.len() {
             let w = turns[i] as usize;
-            let r = own.step;
-            t = sync(
-                r,
-                w,
-                t,
-                sizes,
-                &mut places,
-                &mut held,
-                &registers,
-                &mut fates,
-                &mut can,
-                &mut copied,
-                memory,
-                log,
-                work,
-            );
+            t = engine.sync(own.step, w, t, sizes, memory, log, work);
             i += 1;
             // After the end every turn passes.
             let list = t.lists.list;
             if list.is_empty() {
-                return Played { schedule: t, fates };
+                return Played {
+                    schedule: t,
+                    fates: engine.fates,
+                };
             }
             i = onward(whole, t.away, list.first(), i);
         } else {
-            i = again(whole, i, &can);
+            i = again(whole, i, &engine.can);
         }
     }
-    Played { schedule: t, fates }
+    Played {
+        schedule: t,
+        fates: engine.fates,
+    }
 }

@@ -1,8 +1,40 @@
-// What a run keeps beside an entry for each worker and the lent bytes.
+// What a run keeps: beside the lent bytes the engine's values for each worker, and a schedule.
+ghost use Rattle.std.specs.Prelude.{◌≡◌, ◌<◌};
+ghost use Rattle.protocol.specs.Format.{workers_limit};
+ghost use Rattle.engine.specs.Kept.{private_in};
+
 use decisions::lists::Lists;
 use format::limits::WORKERS_LIMIT;
 use journal::report::Counts;
+use pages::SLOTS;
 use plan::decode::Record;
+use worker::Worker;
+
+// An entry for each worker, and the marks of the copied pages. The fates stand by their codes; `can` says who can move. The lent bytes are no
+// fields here: behind one reference the borrow checker does not lend one buffer as `&` while another is lent as `&mut`, as each store has it.
+#[derive(Drop)]
+pub struct Engine {
+    pub places: [usize; WORKERS_LIMIT],
+    pub held: [u64; WORKERS_LIMIT],
+    pub registers: [u64; WORKERS_LIMIT],
+    pub fates: [u64; WORKERS_LIMIT],
+    pub can: [bool; WORKERS_LIMIT],
+    pub copied: [bool; SLOTS],
+}
+
+impl Engine {
+    // Worker w's private record.
+    pub fn worker(&self, w: usize) -> Worker
+        requires { w < workers_limit }
+        ensures { result ≡ private_in self.now w }
+    {
+        Worker {
+            place: self.places[w],
+            held: self.held[w],
+            registers: self.registers[w],
+        }
+    }
+}
 
 // The lists, how many of the round's list are still away from the fence, what is counted, and the sum of shared memory's words.
 #[derive(Clone, Copy)]

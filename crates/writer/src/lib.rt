@@ -1,6 +1,7 @@
 // The log writer: it carries the lent log and its fill mark, the number of records that the log has.
 #![tactic(auto)]
 
+ghost use Rattle.std.specs.Prelude.{◌≡◌, ◌+◌};
 ghost use Rattle.writer.specs.Appended.{Appending, Appended};
 
 use journal::log::ENTRY_LENGTH;
@@ -12,29 +13,23 @@ pub struct LogWriter<'a> {
     pub records: usize,
 }
 
-// Writes a record behind those that the log has, and gives the mark behind it.
-fn append_at(log: &mut [u8], records: usize, entry: u64) -> usize
+// Writes a record behind those that the log has.
+fn append_at(log: &mut [u8], records: usize, entry: u64)
     requires { Appending log.old records }
-    ensures { Appended log.old records entry result log.new }
+    ensures { Appended log.old records entry (records + 1) log.new }
 {
     let at = ENTRY_LENGTH * records;
     put(log, at, ENTRY_LENGTH, entry);
-    records + 1
 }
 
-// The writer is taken apart: its log and its mark go to `append_at`.
-pub fn append<'a>(w: LogWriter<'a>, entry: u64) -> usize
-    requires { Appending w.log.now w.records }
-    ensures { Appended w.entry.log.now w.entry.records entry result w.exit.0.now }
-{
-    let records = w.records;
-    append_at(&mut *w.log, records, entry)
-}
-
-// The same from a log and its mark.
-pub fn append_record(log: &mut [u8], records: usize, entry: u64) -> usize
-    requires { Appending log.old records }
-    ensures { Appended log.old records entry result log.new }
-{
-    append(LogWriter { log, records }, entry)
+impl<'a> LogWriter<'a> {
+    // One record more in the same log.
+    pub fn append(&mut self, entry: u64)
+        requires { Appending self.old.log.now self.old.records }
+        ensures appended { Appended self.old.log.now self.old.records entry self.new.records self.new.log.now }
+        ensures same_log { self.new.log.ghost_name ≡ self.old.log.ghost_name }
+    {
+        append_at(self.log, self.records, entry);
+        self.records += 1;
+    }
 }

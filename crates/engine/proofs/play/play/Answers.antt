@@ -4,9 +4,8 @@ use Prim.Native.Nat.{◌+◌, ◌-◌, ◌*◌}
 use mathlib.Core.Path.{refl}
 use lib.ListN.{length}
 use Rattle.queue.specs.List.{list_of}
-use Rattle.engine.specs.Kept.{kept_own}
 use Rattle.engine.proofs.Playing.{plan-sound}
-use Rattle.engine.proofs.Played.{unpicked, some_left, begins, goes_on, goes-again, again-moves, went_on, no-fewer, one-at-least, syncing}
+use Rattle.engine.proofs.Played.{unpicked, some_left, begins, goes_on, goes-again, again-moves, turning, went_on, no-fewer, one-at-least, syncing}
 use Rattle.engine.proofs.Played.{stands_on, rises-on, first_small, few-moves, ends-here, all-played, falls, right-falls, one_at_most, sure}
 use Rattle.engine.proofs.play.play.Goals as goal
 
@@ -16,76 +15,73 @@ first_round-t-requires c =
 
 pub loop-i-init : goal.loop-i-init
 loop-i-init c =
-    goes_on c.requires (begins c.requires c.first_round-t.ensures) (record { listed = λ e. refl; within = λ e. omega arith })
+    rw c.first_round-t.ensures.others
+    (goes_on c.requires (begins c.requires c.first_round-t.ensures.begun) (record { listed = λ e. refl; within = λ e. omega arith }))
+
+pub own-own-requires : goal.own-own-requires
+own-own-requires c = turning c.requires c.loop-i.invariant.so
 
 pub sync-t-requires : goal.sync-t-requires
 sync-t-requires c =
-    let w = c.play_own-own.ensures in
-    syncing c.requires (went_on c.requires ((kept_own c.loop-i.places c.loop-i.held c.loop-i.registers c.loop-i.can c.loop-i.copied c.loop-i.memory
-    c.loop-i.work)) c.loop-i.fates c.loop-i.log c.loop-i.invariant.so w) c.if-i-turns.true (w.stopped c.if-i-turns.true c.loop-i.fates c.loop-i.log)
+    let on = c.own-own.ensures in
+    syncing c.requires (went_on c.requires c.loop-i.invariant.so c.own-own.new.self on.turned on.same_fates) c.if-i-turns.true
+    (on.turned.stopped c.if-i-turns.true c.own-own.new.self.fates c.loop-i.log)
 
 pub returns-then-is_empty : goal.returns-then-is_empty
 returns-then-is_empty c =
-    ends-here c.requires
-    (stands_on c.requires ((kept_own c.loop-i.places c.loop-i.held c.loop-i.registers c.loop-i.can c.loop-i.copied c.loop-i.memory c.loop-i.work))
-    c.loop-i.fates c.loop-i.log c.loop-i.invariant.so c.play_own-own.ensures c.if-i-turns.true c.sync-t.ensures)
+    let on = c.own-own.ensures in
+    ends-here c.requires (stands_on c.requires c.loop-i.invariant.so on.turned on.same_fates c.if-i-turns.true c.sync-t.ensures)
     c.is_empty.ensures c.if-is_empty.true
 
 pub onward-i-requires : goal.onward-i-requires
 onward-i-requires c =
-    let stands = stands_on c.requires ((kept_own c.loop-i.places c.loop-i.held c.loop-i.registers c.loop-i.can c.loop-i.copied c.loop-i.memory c.loop-i.work))
-    c.loop-i.fates c.loop-i.log c.loop-i.invariant.so c.play_own-own.ensures c.if-i-turns.true c.sync-t.ensures in
+    let on = c.own-own.ensures in
+    let stands = stands_on c.requires c.loop-i.invariant.so on.turned on.same_fates c.if-i-turns.true c.sync-t.ensures in
     omega (arith, c.first.ensures, first_small c.requires stands (some_left (list_of c.sync-t.result.lists.list) c.is_empty.ensures c.if-is_empty.false))
 
 pub loop-i-smaller-then-i-turns : goal.loop-i-smaller-then-i-turns
 loop-i-smaller-then-i-turns c =
     let so = c.loop-i.invariant.so in
-    let on = c.play_own-own.ensures in
+    let on = c.own-own.ensures in
     let turns = c.args.turns.now in
-    let can = c.sync-t.new.can in
-    falls _ {right = 2 * (2065 - c.loop-i.t.counts.moves) + unpicked turns c.loop-i.can c.loop-i.i}
+    let can = c.sync-t.new.self.can in
+    falls _ {right = 2 * (2065 - c.loop-i.t.counts.moves) + unpicked turns c.loop-i.engine.can c.loop-i.i}
     {right' = 2 * (2065 - c.sync-t.result.counts.moves) + unpicked turns can c.onward-i.result}
     {left = length turns - c.loop-i.i} {left' = length turns - c.onward-i.result}
     (λ e.
     omega (
       arith,
-      rises-on c.requires ((kept_own c.loop-i.places c.loop-i.held c.loop-i.registers c.loop-i.can c.loop-i.copied c.loop-i.memory c.loop-i.work))
-          c.loop-i.fates c.loop-i.log so on c.if-i-turns.true c.sync-t.ensures,
-      few-moves c.requires (stands_on c.requires ((kept_own c.loop-i.places c.loop-i.held c.loop-i.registers c.loop-i.can c.loop-i.copied c.loop-i.memory
-          c.loop-i.work)) c.loop-i.fates c.loop-i.log so on c.if-i-turns.true c.sync-t.ensures),
+      rises-on c.requires so on.turned on.same_fates c.if-i-turns.true c.sync-t.ensures,
+      few-moves c.requires (stands_on c.requires so on.turned on.same_fates c.if-i-turns.true c.sync-t.ensures),
       one_at_most turns can c.onward-i.result,
     ))
-    (λ e. omega (arith, c.if-i-turns.true, on.forward, c.onward-i.ensures.listed e))
+    (λ e. omega (arith, c.if-i-turns.true, on.turned.forward, c.onward-i.ensures.listed e))
 
 pub loop-i-preserved-then-i-turns : goal.loop-i-preserved-then-i-turns
 loop-i-preserved-then-i-turns c =
-    goes_on c.requires
-    (stands_on c.requires ((kept_own c.loop-i.places c.loop-i.held c.loop-i.registers c.loop-i.can c.loop-i.copied c.loop-i.memory c.loop-i.work))
-    c.loop-i.fates c.loop-i.log c.loop-i.invariant.so c.play_own-own.ensures c.if-i-turns.true c.sync-t.ensures)
-    c.onward-i.ensures
+    let on = c.own-own.ensures in
+    goes_on c.requires (stands_on c.requires c.loop-i.invariant.so on.turned on.same_fates c.if-i-turns.true c.sync-t.ensures) c.onward-i.ensures
 
 pub loop-i-smaller : goal.loop-i-smaller
 loop-i-smaller c =
     let so = c.loop-i.invariant.so in
-    let on = c.play_own-own.ensures in
+    let on = c.own-own.ensures in
     let here = c.loop-i-test.true in
     let turns = c.args.turns.now in
-    falls _ {right = 2 * (2065 - c.loop-i.t.counts.moves) + unpicked turns c.loop-i.can c.loop-i.i}
-    {right' = 2 * (2065 - c.play_own-own.result.moves) + unpicked turns c.loop-i.can c.again-i.result}
+    let can = c.loop-i.engine.can in
+    falls _ {right = 2 * (2065 - c.loop-i.t.counts.moves) + unpicked turns can c.loop-i.i}
+    {right' = 2 * (2065 - c.own-own.result.moves) + unpicked turns c.own-own.new.self.can c.again-i.result}
     {left = length turns - c.loop-i.i} {left' = length turns - c.again-i.result}
     (λ e. right-falls _ _ (again-moves c.requires e c.again-i.ensures)
-    (no-fewer c.requires ((kept_own c.loop-i.places c.loop-i.held c.loop-i.registers c.loop-i.can c.loop-i.copied c.loop-i.memory c.loop-i.work))
-    c.loop-i.fates c.loop-i.log so on)
-    (few-moves c.requires (went_on c.requires ((kept_own c.loop-i.places c.loop-i.held c.loop-i.registers c.loop-i.can c.loop-i.copied c.loop-i.memory
-    c.loop-i.work)) c.loop-i.fates c.loop-i.log so on)) (one_at_most turns c.loop-i.can c.loop-i.i)
-    (λ z. one-at-least c.requires ((kept_own c.loop-i.places c.loop-i.held c.loop-i.registers c.loop-i.can c.loop-i.copied c.loop-i.memory c.loop-i.work))
-    c.loop-i.fates c.loop-i.log so on (omega (arith, here, c.if-i-turns.false)) (sure turns c.loop-i.can c.loop-i.i here z)))
+    (no-fewer c.requires so c.own-own.new.self on.turned)
+    (few-moves c.requires (went_on c.requires so c.own-own.new.self on.turned on.same_fates)) (one_at_most turns can c.loop-i.i)
+    (λ z. one-at-least c.requires so c.own-own.new.self on.turned (omega (arith, here, c.if-i-turns.false)) (sure turns can c.loop-i.i here z)))
     (λ e. omega (arith, here, c.if-i-turns.false, c.again-i.ensures.listed e))
 
 pub loop-i-preserved : goal.loop-i-preserved
 loop-i-preserved c =
-    goes-again c.requires (went_on c.requires ((kept_own c.loop-i.places c.loop-i.held c.loop-i.registers c.loop-i.can c.loop-i.copied c.loop-i.memory
-    c.loop-i.work)) c.loop-i.fates c.loop-i.log c.loop-i.invariant.so c.play_own-own.ensures) c.again-i.ensures
+    let on = c.own-own.ensures in
+    goes-again c.requires (went_on c.requires c.loop-i.invariant.so c.own-own.new.self on.turned on.same_fates) c.again-i.ensures
 
 pub returns : goal.returns
 returns c = all-played c.requires c.loop-i.invariant.so (omega (arith, c.loop-i-test.false)) c.loop-i.invariant.nobody

@@ -2,7 +2,7 @@
 use native.Mathlib.Omega.{arith}
 use Rattle.engine.proofs.Here.{small, moves-small, list-some, first_small, sync-here}
 use Rattle.engine.proofs.ArriveSimulates.{arrive-simulates}
-use Rattle.engine.proofs.sync.sync.Goals as goal
+use Rattle.engine.proofs.state.Engine.sync.Goals as goal
 
 pub arrive-away-requires : goal.arrive-away-requires
 arrive-away-requires c =

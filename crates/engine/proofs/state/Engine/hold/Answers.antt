@@ -2,37 +2,42 @@
 use native.Mathlib.Omega.{arith}
 use mathlib.Core.Path.{ap, ◌∙◌}
 use Rattle.protocol.specs.Sum.{sum_of}
+use Rattle.worker.specs.Private.{held_as}
 use Rattle.worker.specs.declared.Synchronised.{Synchronised}
+use Rattle.worker.specs.declared.Worker.{Worker}
 use Rattle.engine.proofs.Here.{small, place-small, held-shown, moves-small}
 use Rattle.engine.proofs.Holder.{deciding, rounds-fit, records-fit, list-below, next-below, shown}
-use Rattle.engine.proofs.hold.hold.Goals as goal
+use Rattle.engine.proofs.state.Engine.hold.Goals as goal
 
-pub offset_bounds-held-w : goal.offset_bounds-held-w
-offset_bounds-held-w c = omega (arith, small c.requires.1.here)
+pub offset_bounds-self-w : goal.offset_bounds-self-w
+offset_bounds-self-w c = omega (arith, small c.requires.1.here)
 
-pub bounds-held-w : goal.bounds-held-w
-bounds-held-w c = omega (arith, small c.requires.1.here)
+pub bounds-self-w : goal.bounds-self-w
+bounds-self-w c = omega (arith, small c.requires.1.here)
+
+pub offset_bounds-self-w-2 : goal.offset_bounds-self-w-2
+offset_bounds-self-w-2 c = omega (arith, small c.requires.1.here)
+
+pub bounds-self-w-2 : goal.bounds-self-w-2
+bounds-self-w-2 c = omega (arith, small c.requires.1.here)
+
+pub offset_bounds-self-w-3 : goal.offset_bounds-self-w-3
+offset_bounds-self-w-3 c = omega (arith, small c.requires.1.here)
+
+pub bounds-self-w-3 : goal.bounds-self-w-3
+bounds-self-w-3 c = omega (arith, small c.requires.1.here)
+
+pub worker-requires : goal.worker-requires
+worker-requires c = small c.requires.1.here
 
 pub decide-d-requires : goal.decide-d-requires
 decide-d-requires c = deciding c.requires.1
 
-pub offset_bounds-places-w : goal.offset_bounds-places-w
-offset_bounds-places-w c = omega (arith, small c.requires.1.here)
-
-pub bounds-places-w : goal.bounds-places-w
-bounds-places-w c = omega (arith, small c.requires.1.here)
-
-pub offset_bounds-registers-w : goal.offset_bounds-registers-w
-offset_bounds-registers-w c = omega (arith, small c.requires.1.here)
-
-pub bounds-registers-w : goal.bounds-registers-w
-bounds-registers-w c = omega (arith, small c.requires.1.here)
-
 pub synchronise-stepped-requires : goal.synchronise-stepped-requires
-synchronise-stepped-requires c = place-small c.requires.1.here
+synchronise-stepped-requires c = omega (arith, place-small c.requires.1.here, ap (λ (v : Worker). v.place) c.worker.ensures)
 
-pub settle_bytes-moved-requires : goal.settle_bytes-moved-requires
-settle_bytes-moved-requires c =
+pub settle_bytes-sum-requires : goal.settle_bytes-sum-requires
+settle_bytes-sum-requires c =
     let p = c.requires.1.here in
     (p.refines.bytes.sizes, small p, p.refines.sum ∙ ap sum_of p.refines.bytes.shared)
 
@@ -42,18 +47,6 @@ record_step-records-requires c =
     let k = records-fit c.requires.1 (c.decide-d.ensures _ (held-shown c.requires.1.here)) c.requires.0 in
     let z = c.requires.1.here.refines.log.size in
     (q.holding.holder, q.asked.operand, rounds-fit c.requires.1, omega arith)
-
-pub offset_bounds-places-w-2 : goal.offset_bounds-places-w-2
-offset_bounds-places-w-2 c = omega (arith, small c.requires.1.here)
-
-pub bounds-places-w-2 : goal.bounds-places-w-2
-bounds-places-w-2 c = omega (arith, small c.requires.1.here)
-
-pub offset_bounds-held-w-2 : goal.offset_bounds-held-w-2
-offset_bounds-held-w-2 c = omega (arith, small c.requires.1.here)
-
-pub bounds-held-w-2 : goal.bounds-held-w-2
-bounds-held-w-2 c = omega (arith, small c.requires.1.here)
 
 pub turn_over-round-requires : goal.turn_over-round-requires
 turn_over-round-requires c =
@@ -68,8 +61,8 @@ pub returns : goal.returns
 returns c =
     λ h.
     shown h (c.decide-d.ensures _ (held-shown h.here)) c.requires.0
-    (ap (λ (q : Synchronised). q.worker) c.synchronise-stepped.ensures)
-    c.settle_bytes-moved.ensures
+    (ap (λ (q : Synchronised). q.worker) c.synchronise-stepped.ensures ∙ ap (λ (v : Worker). held_as v c.decide-d.result.held) c.worker.ensures)
+    c.settle_bytes-sum.ensures
     (ap (λ (q : Synchronised). q.outcome) c.synchronise-stepped.ensures)
     c.record_step-records.ensures.0
     c.record_step-records.ensures.1

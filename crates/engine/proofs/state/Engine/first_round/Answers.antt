@@ -1,8 +1,8 @@
 -- `first_round`: the list of those who are awake, and their marks.
 use Rattle.engine.proofs.Playing.{awake-below}
-use Rattle.engine.proofs.play.first_round.Goals as goal
+use Rattle.engine.proofs.state.Engine.first_round.Goals as goal
 
 pub raise-requires : goal.raise-requires
 raise-requires c =
     let h = c.among-list.ensures in
-    (h.good, awake-below c.args.fates.now c.requires.0 h.list)
+    (h.good, awake-below c.args.self.now.fates c.requires.0 h.list)
