@@ -259,13 +259,14 @@ module _ {file : List ℕ} {n : ℕ} {sizes firsts first turns : List ℕ} {whol
   module _ {i : ℕ} {t t' : Schedule} {g g' : Engine} {memory' log' work' work'' : List ℕ} {r : Reached} {k'' : Kept}
       (s : PlayedSoFar file turns whole memory i t (kept_of g memory' log' work'))
       (u : Turned file firsts turns i t.counts.moves (kept_own g memory' work') r (kept_own g' memory' work''))
-      (same : g'.fates ≡ g.fates) (l : r.turn < length turns)
-      (done : Synced r.step (get_or turns r.turn 0) (moves_as t r.moves) sizes (kept_of g' memory' log' work'') t' k'') where
+      (same : g'.fates ≡ g.fates) {step : Record}
+      (stop : (r.turn < length turns) × ((fates log : List ℕ) → Stopped file firsts turns r.turn (kept_own g' memory' work'' fates log) step))
+      (done : Synced step (get_or turns r.turn 0) (moves_as t r.moves) sizes (kept_of g' memory' log' work'') t' k'') where
     pub stands_on : PlayedSoFar file turns whole memory (r.turn + 1) t' k''
-    stands_on = synced (went_on s g' u same) l (u.stopped l g'.fates log') done
+    stands_on = synced (went_on s g' u same) stop.0 (stop.1 g'.fates log') done
 
     pub rises-on : t.counts.moves < t'.counts.moves
-    rises-on = omega (arith, one_more (went_on s g' u same) l (u.stopped l g'.fates log') done, no-fewer s g' u)
+    rises-on = omega (arith, one_more (went_on s g' u same) stop.0 (stop.1 g'.fates log') done, no-fewer s g' u)
 
   -- the first of the list, where it is not empty
   pub first_small : {i : ℕ} {t : Schedule} {k : Kept} → PlayedSoFar file turns whole memory i t k → 0 < length (list_of t.lists.list)

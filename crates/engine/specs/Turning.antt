@@ -1,5 +1,5 @@
 -- A list of turns or a run to the end, and the turns up to the next one that synchronises: what they take, and what they leave.
-use Rattle.std.specs.Prelude.{ℕ, ◌+◌, ◌*◌, ◌≤◌, ◌<◌, Bool, true, false, ◌≡◌, List, [], ◌++◌, eqb, length, get_or}
+use Rattle.std.specs.Prelude.{ℕ, ◌+◌, ◌*◌, ◌≤◌, ◌<◌, Bool, true, false, ◌≡◌, List, [], ◌++◌, eqb, length, get_or, MatchOption}
 use Rattle.std.proofs.Math.Seq.{slice}
 use Rattle.protocol.specs.Format.{workers_limit, synchronises, up_to, records, sleepers_in, plan_of}
 use Rattle.protocol.specs.Rounds.{keep}
@@ -66,7 +66,7 @@ pub record Stopped (file firsts turns : List ℕ) (i : ℕ) (k : Kept) (r : Reco
 pub record Turned (file firsts turns : List ℕ) (from made : ℕ) (k : List ℕ → List ℕ → Kept) (r : Reached) (k' : List ℕ → List ℕ → Kept) : Type 0 where
   pub forward : from ≤ r.turn
   pub within : r.turn ≤ length turns
-  pub stopped : r.turn < length turns → (fates log : List ℕ) → Stopped file firsts turns r.turn (k' fates log) r.step
+  pub stopped : MatchOption r.step (r.turn ≡ length turns) (λ step. (r.turn < length turns) × ((fates log : List ℕ) → Stopped file firsts turns r.turn (k' fates log) step))
   pub refines :
       (h : Turning file firsts turns from made k)
       → Refines (workers_of (plan_of file)) (played_from (plan_of file) h.start (h.before ++ slice from r.turn turns)) (moves_as h.schedule r.moves)

@@ -5,10 +5,8 @@ ghost use Rattle.engine.specs.Turning.{Turning, Turned};
 
 use crate::state::{Engine, Reached};
 use format::limits::WORKERS_LIMIT;
-use format::ops;
 use format::points::synchronises;
 use moves::{fetch, own_move};
-use plan::decode::Record;
 use token::passes::pass_over;
 
 impl Engine {
@@ -37,7 +35,7 @@ impl Engine {
                     return Reached {
                         turn: i,
                         moves,
-                        step: r,
+                        step: Some(r),
                     };
                 }
                 let after = own_move(self.worker(w), r, w, memory, work, &mut self.copied);
@@ -52,12 +50,7 @@ impl Engine {
         Reached {
             turn: i,
             moves,
-            step: Record {
-                worker: 0,
-                op: ops::PLAN_RECORD,
-                register: 0,
-                number: 0,
-            },
+            step: None,
         }
     }
 }

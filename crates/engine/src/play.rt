@@ -73,21 +73,22 @@ pub fn play(
         let own = engine.own(file, firsts, turns, i, t.counts.moves, memory, work);
         i = own.turn;
         t.counts.moves = own.moves;
-        if i < turns.len() {
-            let w = turns[i] as usize;
-            t = engine.sync(own.step, w, t, sizes, memory, log, work);
-            i += 1;
-            // After the end every turn passes.
-            let list = t.lists.list;
-            if list.is_empty() {
-                return Played {
-                    schedule: t,
-                    fates: engine.fates,
-                };
+        match own.step {
+            Some(r) => {
+                let w = turns[i] as usize;
+                t = engine.sync(r, w, t, sizes, memory, log, work);
+                // After the end every turn passes.
+                if t.lists.list.is_empty() {
+                    return Played {
+                        schedule: t,
+                        fates: engine.fates,
+                    };
+                }
+                i = onward(whole, t.away, t.lists.list.first(), i + 1);
             }
-            i = onward(whole, t.away, list.first(), i);
-        } else {
-            i = again(whole, i, &engine.can);
+            None => {
+                i = again(whole, i, &engine.can);
+            }
         }
     }
     Played {

@@ -45,12 +45,12 @@ pub struct Schedule {
     pub sum: u32,
 }
 
-// The turn at which a list of turns stands, the moves made up to it, and the step of the worker that it names.
+// The turn at which a list of turns stands, the moves made up to it, and the step of the worker that it names; none behind the last turn.
 #[derive(Clone, Copy)]
 pub struct Reached {
     pub turn: usize,
     pub moves: u64,
-    pub step: Record,
+    pub step: Option<Record>,
 }
 
 // What a list of turns leaves beside the bytes: the schedule, and the fates by their codes.

@@ -21,28 +21,32 @@ loop-i-init c =
 pub own-own-requires : goal.own-own-requires
 own-own-requires c = turning c.requires c.loop-i.invariant.so
 
+pub bounds-turns-i : goal.bounds-turns-i
+bounds-turns-i c = (rw c.in-Some.is at c.own-own.ensures.turned.stopped).0
+
 pub sync-t-requires : goal.sync-t-requires
 sync-t-requires c =
     let on = c.own-own.ensures in
-    syncing c.requires (went_on c.requires c.loop-i.invariant.so c.own-own.new.self on.turned on.same_fates) c.if-i-turns.true
-    (on.turned.stopped c.if-i-turns.true c.own-own.new.self.fates c.loop-i.log)
+    let stop = rw c.in-Some.is at on.turned.stopped in
+    syncing c.requires (went_on c.requires c.loop-i.invariant.so c.own-own.new.self on.turned on.same_fates) stop.0 (stop.1 c.own-own.new.self.fates c.loop-i.log)
 
 pub returns-then-is_empty : goal.returns-then-is_empty
 returns-then-is_empty c =
     let on = c.own-own.ensures in
-    ends-here c.requires (stands_on c.requires c.loop-i.invariant.so on.turned on.same_fates c.if-i-turns.true c.sync-t.ensures)
+    ends-here c.requires (stands_on c.requires c.loop-i.invariant.so on.turned on.same_fates (rw c.in-Some.is at on.turned.stopped) c.sync-t.ensures)
     c.is_empty.ensures c.if-is_empty.true
 
 pub onward-i-requires : goal.onward-i-requires
 onward-i-requires c =
     let on = c.own-own.ensures in
-    let stands = stands_on c.requires c.loop-i.invariant.so on.turned on.same_fates c.if-i-turns.true c.sync-t.ensures in
+    let stands = stands_on c.requires c.loop-i.invariant.so on.turned on.same_fates (rw c.in-Some.is at on.turned.stopped) c.sync-t.ensures in
     omega (arith, c.first.ensures, first_small c.requires stands (some_left (list_of c.sync-t.result.lists.list) c.is_empty.ensures c.if-is_empty.false))
 
-pub loop-i-smaller-then-i-turns : goal.loop-i-smaller-then-i-turns
-loop-i-smaller-then-i-turns c =
+pub loop-i-smaller-in-Some : goal.loop-i-smaller-in-Some
+loop-i-smaller-in-Some c =
     let so = c.loop-i.invariant.so in
     let on = c.own-own.ensures in
+    let stop = rw c.in-Some.is at on.turned.stopped in
     let turns = c.args.turns.now in
     let can = c.sync-t.new.self.can in
     falls _ {right = 2 * (2065 - c.loop-i.t.counts.moves) + unpicked turns c.loop-i.engine.can c.loop-i.i}
@@ -51,21 +55,23 @@ loop-i-smaller-then-i-turns c =
     (λ e.
     omega (
       arith,
-      rises-on c.requires so on.turned on.same_fates c.if-i-turns.true c.sync-t.ensures,
-      few-moves c.requires (stands_on c.requires so on.turned on.same_fates c.if-i-turns.true c.sync-t.ensures),
+      rises-on c.requires so on.turned on.same_fates stop c.sync-t.ensures,
+      few-moves c.requires (stands_on c.requires so on.turned on.same_fates stop c.sync-t.ensures),
       one_at_most turns can c.onward-i.result,
     ))
-    (λ e. omega (arith, c.if-i-turns.true, on.turned.forward, c.onward-i.ensures.listed e))
+    (λ e. omega (arith, stop.0, on.turned.forward, c.onward-i.ensures.listed e))
 
-pub loop-i-preserved-then-i-turns : goal.loop-i-preserved-then-i-turns
-loop-i-preserved-then-i-turns c =
+pub loop-i-preserved-in-Some : goal.loop-i-preserved-in-Some
+loop-i-preserved-in-Some c =
     let on = c.own-own.ensures in
-    goes_on c.requires (stands_on c.requires c.loop-i.invariant.so on.turned on.same_fates c.if-i-turns.true c.sync-t.ensures) c.onward-i.ensures
+    goes_on c.requires (stands_on c.requires c.loop-i.invariant.so on.turned on.same_fates (rw c.in-Some.is at on.turned.stopped) c.sync-t.ensures)
+    c.onward-i.ensures
 
 pub loop-i-smaller : goal.loop-i-smaller
 loop-i-smaller c =
     let so = c.loop-i.invariant.so in
     let on = c.own-own.ensures in
+    let over = rw c.in-None.is at on.turned.stopped in
     let here = c.loop-i-test.true in
     let turns = c.args.turns.now in
     let can = c.loop-i.engine.can in
@@ -75,8 +81,8 @@ loop-i-smaller c =
     (λ e. right-falls _ _ (again-moves c.requires e c.again-i.ensures)
     (no-fewer c.requires so c.own-own.new.self on.turned)
     (few-moves c.requires (went_on c.requires so c.own-own.new.self on.turned on.same_fates)) (one_at_most turns can c.loop-i.i)
-    (λ z. one-at-least c.requires so c.own-own.new.self on.turned (omega (arith, here, c.if-i-turns.false)) (sure turns can c.loop-i.i here z)))
-    (λ e. omega (arith, here, c.if-i-turns.false, c.again-i.ensures.listed e))
+    (λ z. one-at-least c.requires so c.own-own.new.self on.turned (omega (arith, here, over)) (sure turns can c.loop-i.i here z)))
+    (λ e. omega (arith, here, over, c.again-i.ensures.listed e))
 
 pub loop-i-preserved : goal.loop-i-preserved
 loop-i-preserved c =
