@@ -130,7 +130,7 @@ module _ {file sizes firsts : List ℕ} {w : ℕ} {t : Schedule} {k : Kept} (a :
       (ap (λ (q : Worker). held_as' q.place q.held) done.worker))
     where
       held_as' : ℕ → ℕ → Worker
-      held_as' place held = record { place = place; held = held; registers = get_or k.registers w 0 }
+      held_as' place held = record { place = place; held = held; registers = get_or k.registers w [] }
 
   records : (u : ℕ) → (u ≡ w → ⊥) → private_of k' u ≡ private_of k u
   records u ne = rw (get_or-set_other k.places w u v.place 0 ne, get_or-set_other k.held w u v.held 0 ne)

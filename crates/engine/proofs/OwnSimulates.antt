@@ -4,7 +4,7 @@ use native.Mathlib.Decide.{ℕ_discrete}
 use native.Mathlib.Omega.{arith}
 use mathlib.Core.Bool.{Bool, false}
 use mathlib.Core.Path.{◌≡◌, refl, sym, ap, ◌∙◌, subst⁻¹}
-use mathlib.Core.List.{List}
+use mathlib.Core.List.{List, []}
 use lib.ListN.{length, get_or, set, length-set}
 use lib.Seq.{get_or-set_same, get_or-set_other}
 use Rattle.protocol.specs.Format.{Own, Step, synchronises, plan_of}
@@ -71,11 +71,11 @@ module _ {file sizes firsts : List ℕ} {w : ℕ} {t : Schedule} {k : Kept} (a :
   mine : private_of k' w ≡ v
   mine =
       rw (get_or-set_same k.places w v.place 0 (omega (arith, small a, a.refines.entries.places)))
-      (rw (get_or-set_same k.registers w v.registers 0 (omega (arith, small a, a.refines.entries.registers)))
+      (rw (get_or-set_same k.registers w v.registers [] (omega (arith, small a, a.refines.entries.registers)))
       (ap counting (sym m.held)))
 
   records : (u : ℕ) → (u ≡ w → ⊥) → private_of k' u ≡ private_of k u
-  records u ne = rw (get_or-set_other k.places w u v.place 0 ne, get_or-set_other k.registers w u v.registers 0 ne)
+  records u ne = rw (get_or-set_other k.places w u v.place 0 ne, get_or-set_other k.registers w u v.registers [] ne)
 
   new : x ≡ viewed v (worker_at s w).held (worker_at s w).arrived (copies_in copied work w) (worker_at s w).fate
   new =

@@ -3,7 +3,8 @@ use Prim.Native.Nat.{ℕ, ◌*◌, ◌<◌, ◌≤◌}
 use native.Mathlib.Omega.{arith}
 use mathlib.Core.Bool.{Bool, true, false, not}
 use mathlib.Core.Path.{◌≡◌, refl, sym, ap, ◌∙◌, subst, subst⁻¹}
-use mathlib.Core.List.{List, []}
+use mathlib.Core.List.{List, [], ◌∷◌}
+use Rattle.std.proofs.lemmas.List.{get_or-replicate}
 use lib.Dec.{eqb}
 use lib.ListN.{length, get_or, take, replicate, length-replicate}
 use Rattle.protocol.specs.Format.{workers_limit, Plan, up_to}
@@ -35,12 +36,16 @@ use Rattle.engine.proofs.CanMove.{can-fence, away-all, raised-length, raised_at}
 use Rattle.engine.proofs.Parts.{as-viewed}
 use Rattle.engine.proofs.Playing.{up-to-below}
 
+-- no register has a number
+abbrev pub zeros : List ℕ
+zeros = 0 ∷ 0 ∷ 0 ∷ 0 ∷ []
+
 -- an entry of zero for each worker, and no copy
 abbrev pub none : List ℕ
 none = replicate workers_limit 0
 
 abbrev pub start_kept : (fates : List ℕ) (can : List Bool) (memory log work : List ℕ) → Kept
-start_kept fates can memory log work = kept none none none fates can (replicate slot_count false) memory log work
+start_kept fates can memory log work = kept none none (replicate workers_limit zeros) fates can (replicate slot_count false) memory log work
 
 module _ (plan : Plan) {t : Schedule} {marks : List Bool} (fates memory log work : List ℕ) (few : workers_of plan ≤ workers_limit)
     (first : FirstFates plan.sleepers fates) (begun : RoundBegun (workers_of plan) fates (replicate workers_limit false) memory t marks)
@@ -74,15 +79,17 @@ module _ (plan : Plan) {t : Schedule} {marks : List Bool} (fates memory log work
       keep_same (λ w. eqb (get_or fates w 0) 0) (λ w. not (sleeps plan w)) (up_to (workers_of plan))
       (λ w m. ap (λ (c : ℕ). eqb c 0) (first.right w (up-to-below few refl w m)) ∙ going-code (sleeps plan w))
 
-  abbrev blank : ℕ → Worker
-  blank i = record { place = i; held = i; registers = i }
+  abbrev blank : ℕ → List ℕ → Worker
+  blank i numbers = record { place = i; held = i; registers = numbers }
 
   view : (w : ℕ) → w < workers_of plan → worker_at (start plan memory) w ≡ viewed (private_of k w) [] false (copies_in (replicate slot_count false) work w) (fate w)
   unfolding new_worker start
   view w l =
       mapped (first_worker plan) (workers_of plan) w new_worker l
-      ∙ ap (λ (cs : Copies). viewed (blank 0) [] false cs (fate w)) (sym (unmarked slot_count work w))
-      ∙ ap (λ (i : ℕ). viewed (blank i) [] false (copies_in (replicate slot_count false) work w) (fate w)) (sym (get_or-copies 0 workers_limit w))
+      ∙ ap (λ (cs : Copies). viewed (blank 0 zeros) [] false cs (fate w)) (sym (unmarked slot_count work w))
+      ∙ ap (λ (numbers : List ℕ). viewed (blank 0 numbers) [] false (copies_in (replicate slot_count false) work w) (fate w))
+      (sym (get_or-replicate workers_limit w zeros [] (omega (arith, l, few))))
+      ∙ ap (λ (i : ℕ). viewed (blank i (get_or (replicate workers_limit zeros) w [])) [] false (copies_in (replicate slot_count false) work w) (fate w)) (sym (get_or-copies 0 workers_limit w))
 
   no-locks : (w : ℕ) → w < workers_of plan → Shows (get_or none w 0) (worker_at (start plan memory) w).held
   no-locks w l =

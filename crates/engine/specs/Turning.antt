@@ -117,7 +117,7 @@ pub record Playing (file : List ℕ) (n : ℕ) (sizes firsts first turns : List 
 pub record Over (file turns start : List ℕ) (p : Played) (memory log work : List ℕ) : Type 0 where
   pub places : List ℕ
   pub held : List ℕ
-  pub registers : List ℕ
+  pub registers : List (List ℕ)
   pub can : List Bool
   pub copied : List Bool
   pub refines :

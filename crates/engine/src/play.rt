@@ -14,6 +14,7 @@ use journal::report::Counts;
 use pages::SLOTS;
 use queue::Queue;
 use token::raise;
+use worker::registers::Registers;
 
 impl Engine {
     // Round 1 of n workers: all of them who are awake are in its list, and can move. The sum of shared memory's words is worked out here and
@@ -62,7 +63,7 @@ pub fn play(
     let mut engine = Engine {
         places: [0; WORKERS_LIMIT],
         held: [0; WORKERS_LIMIT],
-        registers: [0; WORKERS_LIMIT],
+        registers: [Registers::zero(); WORKERS_LIMIT],
         fates: first,
         can: [false; WORKERS_LIMIT],
         copied: [false; SLOTS],

@@ -9,6 +9,7 @@ use journal::report::Counts;
 use pages::SLOTS;
 use plan::decode::Record;
 use worker::Worker;
+use worker::registers::Registers;
 
 // An entry for each worker, and the marks of the copied pages. The fates stand by their codes; `can` says who can move. The lent bytes are no
 // fields here: behind one reference the borrow checker does not lend one buffer as `&` while another is lent as `&mut`, as each store has it.
@@ -16,7 +17,7 @@ use worker::Worker;
 pub struct Engine {
     pub places: [usize; WORKERS_LIMIT],
     pub held: [u64; WORKERS_LIMIT],
-    pub registers: [u64; WORKERS_LIMIT],
+    pub registers: [Registers; WORKERS_LIMIT],
     pub fates: [u64; WORKERS_LIMIT],
     pub can: [bool; WORKERS_LIMIT],
     pub copied: [bool; SLOTS],

@@ -15,7 +15,7 @@ first_round-t-requires c =
 
 pub loop-i-init : goal.loop-i-init
 loop-i-init c =
-    rw c.first_round-t.ensures.others
+    rw (c.first_round-t.ensures.others, c.zero.ensures)
     (goes_on c.requires (begins c.requires c.first_round-t.ensures.begun) (record { listed = λ e. refl; within = λ e. omega arith }))
 
 pub own-own-requires : goal.own-own-requires

@@ -1,9 +1,10 @@
 -- `hold`: the holder's step, from what its parts ensure.
+use Prim.Native.Nat.{ℕ}
 use native.Mathlib.Omega.{arith}
 use mathlib.Core.Path.{ap, ◌∙◌}
 use Rattle.protocol.specs.Sum.{sum_of}
 use Rattle.worker.specs.Private.{held_as}
-use Rattle.worker.specs.declared.Synchronised.{Synchronised}
+use Rattle.worker.specs.declared.Moved.{Moved}
 use Rattle.worker.specs.declared.Worker.{Worker}
 use Rattle.engine.proofs.Here.{small, place-small, held-shown, moves-small}
 use Rattle.engine.proofs.Holder.{deciding, rounds-fit, records-fit, list-below, next-below, shown}
@@ -61,9 +62,9 @@ pub returns : goal.returns
 returns c =
     λ h.
     shown h (c.decide-d.ensures _ (held-shown h.here)) c.requires.0
-    (ap (λ (q : Synchronised). q.worker) c.synchronise-stepped.ensures ∙ ap (λ (v : Worker). held_as v c.decide-d.result.held) c.worker.ensures)
+    (ap (λ (q : Moved ℕ). q.worker) c.synchronise-stepped.ensures ∙ ap (λ (v : Worker). held_as v c.decide-d.result.held) c.worker.ensures)
     c.settle_bytes-sum.ensures
-    (ap (λ (q : Synchronised). q.outcome) c.synchronise-stepped.ensures)
+    (ap (λ (q : Moved ℕ). q.outcome) c.synchronise-stepped.ensures)
     c.record_step-records.ensures.0
     c.record_step-records.ensures.1
     c.turn_over-round.ensures

@@ -15,7 +15,7 @@ own_move-after-requires c =
     let listed_here : synchronises c.fetch-r.result.op ≡ c.synchronises.result =
     sym c.synchronises.ensures in
     let h = here c.loop-i.invariant.0 c.loop-i-test.true (λ fates log. c.if-self-w.true) c.requires in
-    (h.refines.bytes.sizes, h.refines.bytes.marks, small h, rw c.worker.ensures (own-fits h c.fetch-r.ensures (listed_here ∙ c.if-synchronises.false)))
+    (h.refines.bytes.sizes, small h, rw c.worker.ensures (own-fits h c.fetch-r.ensures (listed_here ∙ c.if-synchronises.false)))
 
 pub overflow_add-moves : goal.overflow_add-moves
 overflow_add-moves c =
