@@ -19,7 +19,6 @@ use Rattle.protocol.specs.Demands.{occurs}
 use Rattle.protocol.proofs.Bools.{and-fails}
 use Rattle.protocol.proofs.Counting.{clash}
 use Rattle.protocol.proofs.Fence.{Can, runs_up, holds, can-view, in_list, all-arrived, moved_other}
-use Rattle.queue.specs.List.{list_of}
 use Rattle.rules.specs.Codes.{fate_code}
 use Rattle.token.specs.Token.{arrived_can}
 use Rattle.engine.specs.declared.state.Schedule.{Schedule}
@@ -71,7 +70,7 @@ module _ {file sizes firsts : List ℕ} {w : ℕ} {t : Schedule} {k : Kept} (a :
   after = arrival w s
 
   abbrev marks : List Bool
-  marks = arrived_can s.list t.away w k.can
+  marks = arrived_can (get_or s.list 0 0) t.away w k.can
 
   in-round : member w s.list ≡ true
   in-round = in_list s w (can-view s w a.able)
@@ -192,12 +191,12 @@ module _ {file sizes firsts : List ℕ} {w : ℕ} {t : Schedule} {k : Kept} (a :
   unfolding move_change
   change_none = ap (λ (q : Step). change_by (plan_of file) q (worker_at s w).arrived w s) step ∙ ap (λ (b : Bool). change_by (plan_of file) (sync y) b w s) late
 
-  simulated : {away' : ℕ} {can' : List Bool} → away' ≡ t.away - 1 → can' ≡ arrived_can (list_of t.lists.list) t.away w k.can
+  simulated : {away' : ℕ} {can' : List Bool} → away' ≡ t.away - 1 → can' ≡ arrived_can (get_or t.lists.list 0 0) t.away w k.can
       → Refines (workers_of (plan_of file)) (move (plan_of file) s w) (arrived_schedule t away') (marked_as k can')
   unfolding move
   simulated {away'} {can'} same marks' =
       subst⁻¹ (λ (i : ℕ). Shown i can') same
-      (subst⁻¹ (λ (bs : List Bool). Shown (t.away - 1) bs) (marks' ∙ ap (λ (ws : List ℕ). arrived_can ws t.away w k.can) a.refines.lists.list.list)
+      (subst⁻¹ (λ (bs : List Bool). Shown (t.away - 1) bs) (marks' ∙ ap (λ (ws : List ℕ). arrived_can (get_or ws 0 0) t.away w k.can) a.refines.lists.list)
       (subst⁻¹ (λ (q : State). Refines (workers_of (plan_of file)) q (arrived_schedule t (t.away - 1)) (marked_as k marks))
       (ap (λ (q : Step). move_by (plan_of file) q (worker_at s w).arrived w s) step ∙ ap (λ (b : Bool). move_by (plan_of file) (sync y) b w s) late)
       refined))
@@ -205,6 +204,6 @@ module _ {file sizes firsts : List ℕ} {w : ℕ} {t : Schedule} {k : Kept} (a :
       Shown : ℕ → List Bool → Type 0
       Shown i bs = Refines (workers_of (plan_of file)) (move (plan_of file) s w) (arrived_schedule t i) (marked_as k bs)
 
-  pub arrive-simulates : {away' : ℕ} {can' : List Bool} → away' ≡ t.away - 1 → can' ≡ arrived_can (list_of t.lists.list) t.away w k.can
+  pub arrive-simulates : {away' : ℕ} {can' : List Bool} → away' ≡ t.away - 1 → can' ≡ arrived_can (get_or t.lists.list 0 0) t.away w k.can
       → AfterMove (plan_of file) s w t (arrived_schedule t away') (marked_as k can')
   arrive-simulates same marks' = record { refines = simulated same marks'; moved = rw change_none (omega arith) }

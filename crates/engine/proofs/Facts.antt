@@ -22,7 +22,7 @@ use Rattle.protocol.proofs.OwnMoves.{one-fate, Listed, listed}
 use Rattle.protocol.proofs.Rulings.{Lawful, applied-core, applied-arrived}
 use Rattle.protocol.proofs.Rules.{sleeper, waiter-awake, rule-lawful}
 use Rattle.protocol.proofs.Bounds.{bounded, placed-none, spare-bound}
-use Rattle.queue.specs.List.{list_of, Below}
+use Rattle.queue.specs.List.{Below}
 use Rattle.rules.specs.Codes.{fate_code}
 use Rattle.format.specs.Fates.{code_asleep}
 use Rattle.rules.specs.Rules.{found, sleepers_at, called_by}
@@ -101,19 +101,19 @@ module _ {plan : Plan} {s : State} {t : Schedule} {k : Kept} (sound : Sound plan
   below : (ws ws' : List ℕ) → ws' ≡ ws → Below (workers_of plan) ws → Below workers_limit ws'
   below ws ws' e b w m = omega (arith, b w (ap (λ (us : List ℕ). member w us) (sym e) ∙ m), sound.workers)
 
-  pub list-below : Below workers_limit (list_of t.lists.list)
-  list-below = below s.list _ shows.lists.list.list (list-known plan s i.core)
+  pub list-below : Below workers_limit t.lists.list
+  list-below = below s.list _ shows.lists.list (list-known plan s i.core)
 
-  pub waiting-below : Below workers_limit (list_of t.lists.waiting)
-  waiting-below = below s.waiting _ shows.lists.waiting.list (waiting-known plan s i.core)
+  pub waiting-below : Below workers_limit t.lists.waiting
+  waiting-below = below s.waiting _ shows.lists.waiting (waiting-known plan s i.core)
 
-  pub lists-fit : length (list_of t.lists.list) + length (list_of t.lists.next) + length (list_of t.lists.waiting) ≤ workers_limit
+  pub lists-fit : length t.lists.list + length t.lists.next + length t.lists.waiting ≤ workers_limit
   lists-fit =
       omega (
         arith,
-        ap length shows.lists.list.list,
-        ap length shows.lists.next.list,
-        ap length shows.lists.waiting.list,
+        ap length shows.lists.list,
+        ap length shows.lists.next,
+        ap length shows.lists.waiting,
         (bounded plan s sound i).lists,
         sound.workers,
       )
@@ -123,32 +123,32 @@ module _ {plan : Plan} {s : State} {t : Schedule} {k : Kept} (sound : Sound plan
   asleep-by v h = ap (λ (c : ℕ). eqb c code_asleep) (shows.lists.fates v h) ∙ code-asleep (fate_in s v)
 
   -- nobody who waits sleeps
-  pub waiting-awake : (w : ℕ) → member w (list_of t.lists.waiting) ≡ true → eqb (get_or k.fates w 0) code_asleep ≡ false
+  pub waiting-awake : (w : ℕ) → member w t.lists.waiting ≡ true → eqb (get_or k.fates w 0) code_asleep ≡ false
   waiting-awake w m =
-      let here : member w s.waiting ≡ true = ap (λ (ws : List ℕ). member w ws) (sym shows.lists.waiting.list) ∙ m in
+      let here : member w s.waiting ≡ true = ap (λ (ws : List ℕ). member w ws) (sym shows.lists.waiting) ∙ m in
       asleep-by w (waiting-known plan s i.core w here)
       ∙ waiter-awake (fate_in s w) (omega (arith, (i.core.stands w).queued, member-some w s.waiting here))
 
   -- whoever waits does so once
-  pub waiting-once : (w : ℕ) → occurs w (list_of t.lists.waiting) ≤ 1
+  pub waiting-once : (w : ℕ) → occurs w t.lists.waiting ≤ 1
   waiting-once w =
-      omega (arith, ap (λ (ws : List ℕ). occurs w ws) shows.lists.waiting.list, (i.core.stands w).queued, one-fate (worker_at s w).fate)
+      omega (arith, ap (λ (ws : List ℕ). occurs w ws) shows.lists.waiting, (i.core.stands w).queued, one-fate (worker_at s w).fate)
 
   -- there is room for a sleeper
   pub lists-spare : (op number : ℕ) → (op ≡ op_start → number < workers_of plan)
-      → length (list_of t.lists.list) + length (list_of t.lists.next) + length (list_of t.lists.waiting) + called_by op number k.fates ≤ workers_limit
+      → length t.lists.list + length t.lists.next + length t.lists.waiting + called_by op number k.fates ≤ workers_limit
   lists-spare op number target = go (eqb op op_start) refl
     where
       lists : ℕ
-      lists = length (list_of t.lists.list) + length (list_of t.lists.next) + length (list_of t.lists.waiting)
+      lists = length t.lists.list + length t.lists.next + length t.lists.waiting
 
       spare : number < workers_of plan → eqb (get_or k.fates number 0) code_asleep ≡ true → lists < workers_limit
       spare h e =
           omega (
             arith,
-            ap length shows.lists.list.list,
-            ap length shows.lists.next.list,
-            ap length shows.lists.waiting.list,
+            ap length shows.lists.list,
+            ap length shows.lists.next,
+            ap length shows.lists.waiting,
             spare-bound plan s number i.core h (sleeper (fate_in s number) (sym (asleep-by number h) ∙ e)).resting,
             sound.workers,
           )
@@ -168,7 +168,7 @@ module _ {plan : Plan} {s : State} {t : Schedule} {k : Kept} (sound : Sound plan
   rounds-fit = omega (arith, shows.rounds, (bounded plan s sound i).rounds, (bounded plan s sound i).moves_fit)
 
   -- the queue of a condition or a barrier, by the codes
-  pub queue-listed : (q : QueueName) → found k.fates (list_of t.lists.waiting) (fate_code (waiting q)) ≡ queue_of s q
+  pub queue-listed : (q : QueueName) → found k.fates t.lists.waiting (fate_code (waiting q)) ≡ queue_of s q
   queue-listed q =
-      ap (λ (ws : List ℕ). found k.fates ws (fate_code (waiting q))) shows.lists.waiting.list
+      ap (λ (ws : List ℕ). found k.fates ws (fate_code (waiting q))) shows.lists.waiting
       ∙ queue-coded s k.fates q (λ u m. shows.lists.fates u (waiting-known plan s i.core u m))

@@ -23,7 +23,6 @@ use Rattle.protocol.proofs.Obeys.{play-inv}
 use Rattle.protocol.proofs.Bounds.{bounded, records-bound, log-bound}
 use Rattle.plan.specs.Answer.{record_of}
 use Rattle.plan.specs.declared.decode.Record.{Record}
-use Rattle.queue.specs.List.{list_of}
 use Rattle.queue.proofs.Laws.{below-first}
 use Rattle.worker.specs.Private.{own_of}
 use Rattle.locks.specs.Set.{Shows, Held}
@@ -89,11 +88,11 @@ module _ {file sizes firsts : List ℕ} {w : ℕ} {t : Schedule} {k : Kept} (a :
   held-few = record { locks = (worker_at s w).held; shown = held-shown; few = (bounded plan s sound inv).held w }
 
   -- the round's list
-  pub list-some : 0 < length (list_of t.lists.list)
-  list-some = rw a.refines.lists.list.list (member-some-length w s.list in-round)
+  pub list-some : 0 < length t.lists.list
+  list-some = rw a.refines.lists.list (member-some-length w s.list in-round)
 
-  pub first_small : get_or (list_of t.lists.list) 0 0 < workers_limit
-  first_small = below-first workers_limit (list_of t.lists.list) list-some (facts.list-below sound inv a.refines)
+  pub first_small : get_or t.lists.list 0 0 < workers_limit
+  first_small = below-first workers_limit t.lists.list list-some (facts.list-below sound inv a.refines)
 
   pub holds-token : t.away ≡ 0 → Holder s w
   holds-token near = holder s w a.able (sym a.refines.lists.away ∙ near)

@@ -3,7 +3,7 @@ use Prim.Native.Nat.{ℕ, ◌+◌, ◌*◌, ◌<◌}
 use native.Mathlib.Decide.{ℕ_discrete}
 use native.Mathlib.Omega.{arith}
 use mathlib.Core.Bool.{Bool, true, false, cond}
-use mathlib.Core.Path.{◌≡◌, refl, sym, ap, ◌∙◌, subst, subst⁻¹}
+use mathlib.Core.Path.{◌≡◌, refl, sym, ap, ◌∙◌, subst⁻¹}
 use mathlib.Core.List.{List, [], ◌∷◌, ◌++◌}
 use lib.Dec.{eqb}
 use lib.ListN.{length, get_or, set, take, drop, length-append, length-set}
@@ -25,7 +25,6 @@ use Rattle.pages.specs.Copies.{copies_in, slot_count}
 use Rattle.worker.specs.Private.{viewed, held_as}
 use Rattle.worker.specs.declared.Worker.{Worker}
 use Rattle.locks.specs.Set.{Shows}
-use Rattle.queue.specs.List.{Holds}
 use Rattle.journal.specs.declared.report.Counts.{Counts}
 use Rattle.decisions.specs.declared.lists.Lists.{Lists}
 use Rattle.rules.specs.Codes.{fate_code}
@@ -35,6 +34,7 @@ use Rattle.token.specs.declared.Round.{Round}
 use Rattle.engine.specs.declared.state.Schedule.{Schedule}
 use Rattle.engine.specs.Kept.{Kept, kept, private_of}
 use Rattle.engine.specs.Refines.{SameBytes, SameLog, Refines}
+use Rattle.engine.specs.Holding.{head_of}
 use Rattle.engine.specs.Moving.{Able, state_of, AfterMove}
 use Rattle.engine.proofs.CanMove.{can-token, mark_set}
 use Rattle.engine.proofs.Parts.{bytes-moved, scheduled, RoundTurned, turned-over}
@@ -63,7 +63,7 @@ pub record StepDone (s : State) (w : ℕ) (y : Sync) (R : Ruling) (t : Schedule)
   pub mark_size : length copied' ≡ slot_count
   pub entry : take (entry_length * (t.counts.records + 1)) log' ≡ log_bytes (s.log ++ (entry_of s w y R.outcome ∷ []))
   pub log_size : length log' ≡ log_length
-  pub over : TurnedOver ls.list ls.next w t.counts.rounds k.can r can'
+  pub over : TurnedOver (head_of ls.list) ls.next w t.counts.rounds k.can r can'
 
 -- what is counted behind it
 abbrev pub held_counts : Schedule → Round → Counts
@@ -184,19 +184,17 @@ module _ {file sizes firsts : List ℕ} {w : ℕ} {t : Schedule} {k : Kept} (a :
           ∙ sym (ap (λ (x : steps.Worker). fate_code x.fate) (at_other u ne))
 
   -- the lists
-  list : Holds ls.list after.list
+  list : ls.list ≡ after.list
   unfolding apply
-  list =
-      subst (λ (ws : List ℕ). Holds ls.list (stays_in R.goes w ++ (R.wakes ++ ws))) (ap (λ (ws : List ℕ). drop 1 ws) (a.refines.lists.list.list ∙ h.list))
-      done.lists.list
+  list = done.lists.list ∙ ap (λ (ws : List ℕ). stays_in R.goes w ++ (R.wakes ++ drop 1 ws)) (a.refines.lists.list ∙ h.list)
 
-  next : Holds ls.next after.next
+  next : ls.next ≡ after.next
   unfolding apply
-  next = subst (λ (ws : List ℕ). Holds ls.next (ws ++ (R.joins ++ joins_next R.goes w))) a.refines.lists.next.list done.lists.next
+  next = done.lists.next ∙ ap (λ (ws : List ℕ). ws ++ (R.joins ++ joins_next R.goes w)) a.refines.lists.next
 
-  waiting : Holds ls.waiting after.waiting
+  waiting : ls.waiting ≡ after.waiting
   unfolding apply
-  waiting = subst (λ (ws : List ℕ). Holds ls.waiting (without out ws ++ joins_waiting R.goes w)) a.refines.lists.waiting.list done.lists.waiting
+  waiting = done.lists.waiting ∙ ap (λ (ws : List ℕ). without out ws ++ joins_waiting R.goes w) a.refines.lists.waiting
 
   -- before its step the holder alone can move
   down : (u : ℕ) → u < workers_limit → get_or (set k.can w false) u false ≡ false

@@ -4,6 +4,7 @@ use mathlib.Core.Bool.{Bool}
 use mathlib.Core.Path.{◌≡◌, sym, ap, ◌∙◌, subst, subst⁻¹}
 use mathlib.Core.List.{List, [], ◌∷◌, ◌++◌}
 use native.Mathlib.Omega.{arith}
+use Rattle.std.specs.Prelude.{IfSome}
 use lib.ListN.{length, get_or, drop, take}
 use lib.Seq.{sets, length-sets}
 use Rattle.protocol.specs.Format.{workers_limit, Plan, Sync, sync, plan_of}
@@ -19,7 +20,8 @@ use Rattle.plan.specs.declared.decode.Record.{Record}
 use Rattle.worker.specs.Private.{held_as}
 use Rattle.worker.specs.declared.Worker.{Worker}
 use Rattle.locks.specs.Set.{Shows}
-use Rattle.queue.specs.List.{list_of, Below}
+use Rattle.queue.specs.List.{Below}
+use Rattle.queue.proofs.Laws.{member-first}
 use Rattle.pages.specs.Copies.{copies_in}
 use Rattle.journal.specs.Bytes.{entry_as}
 use Rattle.journal.proofs.Packing.{record-more}
@@ -34,7 +36,7 @@ use Rattle.moves.specs.Moves.{InRange}
 use Rattle.engine.specs.declared.state.Schedule.{Schedule}
 use Rattle.decisions.specs.declared.decision.Decision.{Decision}
 use Rattle.engine.specs.Kept.{Kept, private_of}
-use Rattle.engine.specs.Holding.{BytesSettled}
+use Rattle.engine.specs.Holding.{BytesSettled, head_of}
 use Rattle.engine.specs.Moving.{state_of, Syncing, AfterMove}
 use Rattle.engine.proofs.Facts as facts
 use Rattle.engine.proofs.Facts.{Holder, rule_at, applied, hold-core, list-known, next_known}
@@ -42,6 +44,11 @@ use Rattle.engine.proofs.Here as here
 use Rattle.engine.proofs.Here.{sound, inv, small, held-few, list-some, holds-token, sizes-right, range, sync-here}
 use Rattle.engine.proofs.Parts.{scheduled}
 use Rattle.engine.proofs.HoldSimulates.{StepDone, held_kept, hold-simulates}
+
+-- the first of a list of workers is one of them
+pub head-below : (ws : List ℕ) → Below workers_limit ws → IfSome (head_of ws) (λ w. w < workers_limit)
+head-below [] b = tt
+head-below (w ∷ ws) b = b w (member-first w ws)
 
 module _ {r : Record} {w : ℕ} {t : Schedule} {sizes : List ℕ} {k : Kept} (h : Syncing r w t sizes k) where
   abbrev plan : Plan
@@ -69,7 +76,6 @@ module _ {r : Record} {w : ℕ} {t : Schedule} {sizes : List ℕ} {k : Kept} (h 
   deciding =
       let a = h.here in
       let below = facts.waiting-below (sound a) (inv a) a.refines in
-      let waits = a.refines.lists.waiting.good in
       record {
         asked =
             record {
@@ -79,16 +85,13 @@ module _ {r : Record} {w : ℕ} {t : Schedule} {sizes : List ℕ} {k : Kept} (h 
               barrier = λ e. in-range.queue (omega arith) (omega arith);
               target = λ e. omega (arith, in-range.target e, (sound a).workers);
               held = held-few a;
-              good = waits;
               below = below;
               awake = facts.waiting-awake (sound a) (inv a) a.refines;
             };
         holding =
             record {
               holder = small a;
-              list = a.refines.lists.list.good;
-              next = a.refines.lists.next.good;
-              waiting = record { good = waits; below = below; once = facts.waiting-once (sound a) (inv a) a.refines };
+              waiting = record { below = below; once = facts.waiting-once (sound a) (inv a) a.refines };
               first = list-some a;
               total = facts.lists-fit (sound a) (inv a) a.refines;
               size = a.refines.entries.fates;
@@ -125,20 +128,20 @@ module _ {r : Record} {w : ℕ} {t : Schedule} {sizes : List ℕ} {k : Kept} (h 
       core : Core plan (applied plan s w y holder.rest)
       core = hold-core plan s (inv h.here).core w y holder step
 
-      pub list-below : Below workers_limit (list_of d.lists.list)
+      pub list-below : Below workers_limit d.lists.list
       unfolding apply
       list-below u m =
-          let rest : drop 1 (list_of t.lists.list) ≡ holder.rest
-          = ap (λ (ws : List ℕ). drop 1 ws) (h.here.refines.lists.list.list ∙ holder.list) in
-          let same = lists-moved.list.list ∙ ap (λ (ws : List ℕ). stays_in R.goes w ++ (R.wakes ++ ws)) rest in
+          let rest : drop 1 t.lists.list ≡ holder.rest
+          = ap (λ (ws : List ℕ). drop 1 ws) (h.here.refines.lists.list ∙ holder.list) in
+          let same = lists-moved.list ∙ ap (λ (ws : List ℕ). stays_in R.goes w ++ (R.wakes ++ ws)) rest in
           let i = list-known plan (applied plan s w y holder.rest) core u (ap (λ (ws : List ℕ). member u ws) (sym same) ∙ m) in
           let n = (sound h.here).workers in
           omega arith
 
-      pub next-below : Below workers_limit (list_of d.lists.next)
+      pub next-below : Below workers_limit d.lists.next
       unfolding apply
       next-below u m =
-          let same = lists-moved.next.list ∙ ap (λ (ws : List ℕ). ws ++ (R.joins ++ joins_next R.goes w)) h.here.refines.lists.next.list in
+          let same = lists-moved.next ∙ ap (λ (ws : List ℕ). ws ++ (R.joins ++ joins_next R.goes w)) h.here.refines.lists.next in
           let i = next_known plan (applied plan s w y holder.rest) core u (ap (λ (ws : List ℕ). member u ws) (sym same) ∙ m) in
           let n = (sound h.here).workers in
           omega arith
@@ -147,8 +150,7 @@ module _ {r : Record} {w : ℕ} {t : Schedule} {sizes : List ℕ} {k : Kept} (h 
       module _ {v : Worker} (same-worker : v ≡ held_as (private_of k w) d.held)
           {memory' : List ℕ} {copied' : List Bool} {sum' : ℕ} (b : BytesSettled d.bytes w t.sum k.memory k.copied k.work sum' memory' copied')
           {outcome : ℕ} (same_outcome : outcome ≡ d.outcome) {records' : ℕ} {log' : List ℕ} (counted : records' ≡ t.counts.records + 1)
-          (l : log' ≡ sets k.log (entry_length * t.counts.records) (entry_bytes (entry_as (t.counts.rounds + 1) w r.op r.number outcome)))
-          {o : Round} {can' : List Bool} (turned : TurnedOver d.lists.list d.lists.next w t.counts.rounds k.can o can') where
+          (l : log' ≡ sets k.log (entry_length * t.counts.records) (entry_bytes (entry_as (t.counts.rounds + 1) w r.op r.number outcome))) where
         abbrev entry : Entry
         entry = entry_as (t.counts.rounds + 1) w r.op r.number outcome
 
@@ -163,34 +165,35 @@ module _ {r : Record} {w : ℕ} {t : Schedule} {sizes : List ℕ} {k : Kept} (h 
         same-held : v.held ≡ d.held
         same-held = ap (λ (q : Worker). q.held) same-worker
 
-        done : StepDone s w y R t k v d.lists o sum' fates' can' copied' memory' log'
-        done =
-            let shows = h.here.refines in
-            let settled = subst (λ (q : rounds.Ruling). FatesSettled k.fates q w fates') ruled x.carried.settled in
-            let bytes = x.carried.bytes ∙ ap (λ (q : rounds.Ruling). q.bytes) ruled in
-            record {
-              lists = lists-moved;
-              worker = same-worker ∙ ap (held_as (private_of k w)) (sym same-held);
-              locks =
-                  subst⁻¹ (λ (i : ℕ). Shows i R.held) same-held (subst (λ (q : rounds.Ruling). Shows d.held q.held) ruled x.carried.held);
-              fate_count = settled.size;
-              fates = settled.code;
-              shared = b.shared ∙ ap (λ (i : rounds.Uncommitted). memory_after i (copies_in k.copied k.work w) k.memory) bytes;
-              moved = b.moved ∙ ap (λ (i : rounds.Uncommitted). moved_by (settled_change i (copies_in k.copied k.work w) k.memory) t.sum) bytes;
-              mine = b.mine ∙ ap (λ (i : rounds.Uncommitted). copies_after i (copies_in k.copied k.work w)) bytes;
-              others = b.others;
-              memory_size = b.size ∙ shows.bytes.sizes.memory_length;
-              mark_size = b.mark_size ∙ shows.bytes.marks;
-              entry =
-                  ap (λ (bs : List ℕ). take (entry_length * (t.counts.records + 1)) bs) l
-                  ∙ (record-more k.log s.log entry t.counts.records (let i = records-fit in let z = shows.log.size in omega arith) shows.log.bytes
-                  ∙ ap (λ (e : Entry). log_bytes (s.log ++ (e ∷ []))) same-entry);
-              log_size = ap length l ∙ (length-sets k.log (entry_length * t.counts.records) (entry_bytes entry) ∙ shows.log.size);
-              over = turned;
-            }
+        module _ (o : Round) (can' : List Bool) (turned : TurnedOver (head_of d.lists.list) d.lists.next w t.counts.rounds k.can o can') where
+          done : StepDone s w y R t k v d.lists o sum' fates' can' copied' memory' log'
+          done =
+              let shows = h.here.refines in
+              let settled = subst (λ (q : rounds.Ruling). FatesSettled k.fates q w fates') ruled x.carried.settled in
+              let bytes = x.carried.bytes ∙ ap (λ (q : rounds.Ruling). q.bytes) ruled in
+              record {
+                lists = lists-moved;
+                worker = same-worker ∙ ap (held_as (private_of k w)) (sym same-held);
+                locks =
+                    subst⁻¹ (λ (i : ℕ). Shows i R.held) same-held (subst (λ (q : rounds.Ruling). Shows d.held q.held) ruled x.carried.held);
+                fate_count = settled.size;
+                fates = settled.code;
+                shared = b.shared ∙ ap (λ (i : rounds.Uncommitted). memory_after i (copies_in k.copied k.work w) k.memory) bytes;
+                moved = b.moved ∙ ap (λ (i : rounds.Uncommitted). moved_by (settled_change i (copies_in k.copied k.work w) k.memory) t.sum) bytes;
+                mine = b.mine ∙ ap (λ (i : rounds.Uncommitted). copies_after i (copies_in k.copied k.work w)) bytes;
+                others = b.others;
+                memory_size = b.size ∙ shows.bytes.sizes.memory_length;
+                mark_size = b.mark_size ∙ shows.bytes.marks;
+                entry =
+                    ap (λ (bs : List ℕ). take (entry_length * (t.counts.records + 1)) bs) l
+                    ∙ (record-more k.log s.log entry t.counts.records (let i = records-fit in let z = shows.log.size in omega arith) shows.log.bytes
+                    ∙ ap (λ (e : Entry). log_bytes (s.log ++ (e ∷ []))) same-entry);
+                log_size = ap length l ∙ (length-sets k.log (entry_length * t.counts.records) (entry_bytes entry) ∙ shows.log.size);
+                over = turned;
+              }
 
-        -- with the log's records counted by the mark that the writer gives, and the moves and the sum however the code comes by them
-        pub shown : {moves' sum'' : ℕ} → moves' ≡ t.counts.moves + 1 → sum'' ≡ sum'
-            → AfterMove plan s w t (scheduled d.lists o (record { moves = moves'; rounds = o.rounds; records = records' }) sum'')
-            (held_kept k w v fates' can' copied' memory' log')
-        shown once same = rw (once, counted, same) (hold-simulates h.here near step done)
+          -- with the log's records counted by the mark that the writer gives, and the moves and the sum however the code comes by them
+          pub shown : {moves' sum'' : ℕ} → moves' ≡ t.counts.moves + 1 → sum'' ≡ sum'
+              → AfterMove plan s w t (scheduled d.lists o (record { moves = moves'; rounds = o.rounds; records = records' }) sum'')
+              (held_kept k w v fates' can' copied' memory' log')
+          shown once same = rw (once, counted, same) (hold-simulates h.here near step done)

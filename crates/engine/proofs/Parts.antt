@@ -2,8 +2,9 @@
 use Prim.Native.Nat.{ℕ, ◌+◌, ◌<◌}
 use native.Mathlib.Decide.{ℕ_discrete}
 use mathlib.Core.Bool.{Bool, true, false}
-use mathlib.Core.Path.{◌≡◌, refl, sym, ap, ◌∙◌, subst⁻¹}
+use mathlib.Core.Path.{◌≡◌, refl, sym, ap, ◌∙◌, subst, subst⁻¹}
 use mathlib.Core.List.{List, [], ◌∷◌}
+use Rattle.std.specs.Prelude.{Option}
 use lib.Dec.{eqb}
 use lib.ListN.{length, get_or, set, length-set}
 use Rattle.protocol.specs.Format.{workers_limit, Plan}
@@ -19,8 +20,6 @@ use Rattle.pages.specs.Copies.{Lent, copies_in, slot_count}
 use Rattle.worker.specs.Private.{viewed}
 use Rattle.worker.specs.declared.Worker.{Worker}
 use Rattle.locks.specs.Set.{Shows}
-use Rattle.queue.specs.declared.Queue.{Queue}
-use Rattle.queue.specs.List.{list_of, Holds}
 use Rattle.journal.specs.declared.report.Counts.{Counts}
 use Rattle.decisions.specs.declared.lists.Lists.{Lists}
 use Rattle.rules.specs.Codes.{fate_code}
@@ -28,6 +27,7 @@ use Rattle.token.specs.Token.{raised, NewRound, SameRound, TurnedOver}
 use Rattle.token.specs.declared.Round.{Round}
 use Rattle.engine.specs.declared.state.Schedule.{Schedule}
 use Rattle.engine.specs.Kept.{Kept, private_of}
+use Rattle.engine.specs.Holding.{head_of, lists_begun}
 use Rattle.engine.specs.Refines.{SameBytes, SameLists}
 use Rattle.engine.proofs.CanMove.{cond-false, none-away, can-token, can-fence, away-all, mark_set, raised-length, raised_at}
 
@@ -70,7 +70,7 @@ bytes-moved {n} {w} {s} {s'} {k} {k'} {ls} b shared sizes marks mine locks other
 -- the schedule behind a holder's step, whose round goes on or is the next
 abbrev pub scheduled : Lists → Round → Counts → ℕ → Schedule
 scheduled lists r counts sum =
-    record { lists = record { list = r.list; next = r.next; waiting = lists.waiting }; away = r.away; counts = counts; sum = sum }
+    record { lists = lists_begun lists r.begun; away = r.away; counts = counts; sum = sum }
 
 pub record RoundTurned (n : ℕ) (s : State) (ls : Lists) (r : Round) (counts : Counts) (sum : ℕ) (k : Kept) : Type 0 where
   pub lists : SameLists n s (scheduled ls r counts sum) k
@@ -83,20 +83,20 @@ first-eqb u (w ∷ ws) e = refl
 
 module _ (plan : Plan) (s : State) (lists : Lists) (r : Round) (counts : Counts) (sum w rounds : ℕ) (marks : List Bool) (k : Kept)
     (c : Core plan s) (all : all_arrived s s.list ≡ true)
-    (list : Holds lists.list s.list) (next : Holds lists.next s.next) (waiting : Holds lists.waiting s.waiting)
+    (list : lists.list ≡ s.list) (next : lists.next ≡ s.next) (waiting : lists.waiting ≡ s.waiting)
     (fates : (u : ℕ) → u < workers_of plan → get_or k.fates u 0 ≡ fate_code (worker_at s u).fate)
     (down : (u : ℕ) → u < workers_limit → get_or (set marks w false) u false ≡ false) (count : length marks ≡ workers_limit) (round : s.rounds ≡ rounds)
-    (over : TurnedOver lists.list lists.next w rounds marks r k.can) where
+    (over : TurnedOver (head_of lists.list) lists.next w rounds marks r k.can) where
   marked : length (set marks w false) ≡ workers_limit
   marked = length-set marks w false ∙ count
 
-  same-round : SameRound lists.list lists.next w rounds marks r k.can → none_left s.list ≡ false → RoundTurned (workers_of plan) s lists r counts sum k
-  same-round g some =
+  same-round : (v : ℕ) (vs : List ℕ) → s.list ≡ v ∷ vs → SameRound v w rounds marks r k.can → RoundTurned (workers_of plan) s lists r counts sum k
+  same-round v vs e g =
       record {
         lists = record {
-          list = subst⁻¹ (λ (q : Queue). Holds q s.list) g.here list;
-          next = subst⁻¹ (λ (q : Queue). Holds q s.next) g.later next;
-          waiting = waiting;
+          list = ap (λ (b : Option (List ℕ)). (lists_begun lists b).list) g.here ∙ list;
+          next = ap (λ (b : Option (List ℕ)). (lists_begun lists b).next) g.here ∙ next;
+          waiting = ap (λ (b : Option (List ℕ)). (lists_begun lists b).waiting) g.here ∙ waiting;
           away = g.behind ∙ sym (none-away s s.list all);
           fates = fates;
           able = able;
@@ -105,8 +105,11 @@ module _ (plan : Plan) (s : State) (lists : Lists) (r : Round) (counts : Counts)
         rounds = round ∙ sym g.counted;
       }
     where
-      head : get_or (list_of lists.list) 0 0 ≡ get_or s.list 0 0
-      head = ap (λ (ws : List ℕ). get_or ws 0 0) list.list
+      head : v ≡ get_or s.list 0 0
+      head = sym (ap (λ (ws : List ℕ). get_or ws 0 0) e)
+
+      some : none_left s.list ≡ false
+      some = ap none_left e
 
       able : (u : ℕ) → u < workers_limit → get_or k.can u false ≡ can s u
       able u l =
@@ -125,20 +128,20 @@ module _ (plan : Plan) (s : State) (lists : Lists) (r : Round) (counts : Counts)
   next-round g =
       record {
         lists = record {
-          list = subst⁻¹ (λ (q : Queue). Holds q s.next) g.here next;
-          next = g.later;
-          waiting = waiting;
-          away = g.behind ∙ ap length next.list ∙ sym (away-all (new_round s) s.next fresh);
+          list = ap (λ (b : Option (List ℕ)). (lists_begun lists b).list) g.here ∙ next;
+          next = ap (λ (b : Option (List ℕ)). (lists_begun lists b).next) g.here;
+          waiting = ap (λ (b : Option (List ℕ)). (lists_begun lists b).waiting) g.here ∙ waiting;
+          away = g.behind ∙ ap length next ∙ sym (away-all (new_round s) s.next fresh);
           fates = fates;
           able = able;
         };
-        marks = ap length g.marks ∙ raised-length (list_of lists.next) (set marks w false) ∙ marked;
+        marks = ap length g.marks ∙ raised-length lists.next (set marks w false) ∙ marked;
         rounds = ap (λ (i : ℕ). i + 1) round ∙ sym g.counted;
       }
     where
       able : (u : ℕ) → u < workers_limit → get_or k.can u false ≡ can (new_round s) u
       able u l =
-          ap (λ (m : List Bool). get_or m u false) (g.marks ∙ ap (λ (ws : List ℕ). raised ws (set marks w false)) next.list)
+          ap (λ (m : List Bool). get_or m u false) (g.marks ∙ ap (λ (ws : List ℕ). raised ws (set marks w false)) next)
           ∙ raised_at s.next (set marks w false) u (rw marked l)
           ∙ or-fails (member u s.next) (down u l)
           ∙ sym (can-fence (new_round s) u fresh)
@@ -147,5 +150,5 @@ module _ (plan : Plan) (s : State) (lists : Lists) (r : Round) (counts : Counts)
   turned-over = go s.list refl
     where
       go : (ws : List ℕ) → s.list ≡ ws → RoundTurned (workers_of plan) (closing ws s) lists r counts sum k
-      go [] e = next-round (over.ends (ap none_left (list.list ∙ e)))
-      go (v ∷ vs) e = same-round (over.goes (ap none_left (list.list ∙ e))) (ap none_left e)
+      go [] e = next-round (subst (λ (us : List ℕ). TurnedOver (head_of us) lists.next w rounds marks r k.can) (list ∙ e) over)
+      go (v ∷ vs) e = same-round v vs e (subst (λ (us : List ℕ). TurnedOver (head_of us) lists.next w rounds marks r k.can) (list ∙ e) over)

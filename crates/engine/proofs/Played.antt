@@ -21,7 +21,6 @@ use Rattle.protocol.proofs.Laws.{start-inv, counts}
 use Rattle.protocol.proofs.Obeys.{play-inv, play-append, rest-passes}
 use Rattle.protocol.proofs.Sums.{sum_kept}
 use Rattle.plan.specs.declared.decode.Record.{Record}
-use Rattle.queue.specs.List.{list_of}
 use Rattle.queue.proofs.Laws.{below-first}
 use Rattle.engine.specs.declared.state.Schedule.{Schedule}
 use Rattle.engine.specs.declared.state.Reached.{Reached}
@@ -219,12 +218,12 @@ module _ {file : List ℕ} {n : ℕ} {sizes firsts first turns : List ℕ} {whol
     listed-out e shows = record { played = turns; listed = λ f. refl; ends = λ f. clash (sym e ∙ f); over = over shows }
 
     -- where the list is empty the plan has ended
-    pub ends-here : {b : Bool} → b ≡ none_left (list_of t.lists.list) → b ≡ true
+    pub ends-here : {b : Bool} → b ≡ none_left t.lists.list → b ≡ true
         → PlayedOut file turns whole memory (record { schedule = t; fates = k.fates }) k.memory k.log k.work
     ends-here none e = split whole (λ f. out f empty) (λ f. listed-out f (passed f))
       where
         empty : ended (played_from (plan_of file) memory s.played) ≡ true
-        empty = ap none_left (sym s.refines.lists.list.list) ∙ sym none ∙ e
+        empty = ap none_left (sym s.refines.lists.list) ∙ sym none ∙ e
 
         -- and all turns behind it pass
         passed : whole ≡ false → Shown turns t k
@@ -269,8 +268,8 @@ module _ {file : List ℕ} {n : ℕ} {sizes firsts first turns : List ℕ} {whol
     rises-on = omega (arith, one_more (went_on s g' u same) stop.0 (stop.1 g'.fates log') done, no-fewer s g' u)
 
   -- the first of the list, where it is not empty
-  pub first_small : {i : ℕ} {t : Schedule} {k : Kept} → PlayedSoFar file turns whole memory i t k → 0 < length (list_of t.lists.list)
-      → get_or (list_of t.lists.list) 0 0 < workers_limit
+  pub first_small : {i : ℕ} {t : Schedule} {k : Kept} → PlayedSoFar file turns whole memory i t k → 0 < length t.lists.list
+      → get_or t.lists.list 0 0 < workers_limit
   first_small s some =
       let sound = plan-sound p.named in
       below-first workers_limit _ some

@@ -2,7 +2,7 @@
 use Prim.Native.Nat.{ℕ, ◌*◌, ◌<◌, ◌≤◌}
 use native.Mathlib.Omega.{arith}
 use mathlib.Core.Bool.{Bool, true, false, not}
-use mathlib.Core.Path.{◌≡◌, refl, sym, ap, ◌∙◌, subst, subst⁻¹}
+use mathlib.Core.Path.{◌≡◌, refl, sym, ap, ◌∙◌, subst⁻¹}
 use mathlib.Core.List.{List, [], ◌∷◌}
 use Rattle.std.proofs.lemmas.List.{get_or-replicate}
 use lib.Dec.{eqb}
@@ -19,7 +19,6 @@ use Rattle.protocol.proofs.Bools.{or-fails}
 use Rattle.protocol.proofs.Lists.{get_or-copies, mapped}
 use Rattle.protocol.proofs.Laws.{start-worker}
 use Rattle.plan.specs.Sleeping.{first_code, FirstFates}
-use Rattle.queue.specs.List.{Holds}
 use Rattle.rules.proofs.Found.{keep_same}
 use Rattle.pages.specs.Copies.{Lent, copies_in, slot_count}
 use Rattle.pages.proofs.Slots.{unmarked}
@@ -118,7 +117,7 @@ module _ (plan : Plan) {t : Schedule} {marks : List Bool} (fates memory log work
             };
         bytes = record { shared = refl; worker = λ w l. as-viewed (private_of k w) (view w l); locks = no-locks; sizes = sizes; marks = length-replicate slot_count false };
         lists = record {
-          list = subst (λ (ws : List ℕ). Holds t.lists.list ws) awake-same begun.list;
+          list = begun.list ∙ awake-same;
           next = begun.next;
           waiting = begun.waiting;
           away =

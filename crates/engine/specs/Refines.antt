@@ -9,7 +9,6 @@ use Rattle.protocol.specs.Calls.{log_length}
 use Rattle.pages.specs.Copies.{Lent, copies_in, slot_count}
 use Rattle.worker.specs.Private.{viewed}
 use Rattle.locks.specs.Set.{Shows}
-use Rattle.queue.specs.List.{Holds}
 use Rattle.rules.specs.Codes.{fate_code}
 use Rattle.engine.specs.declared.state.Schedule.{Schedule}
 use Rattle.engine.specs.Kept.{Kept, private_of}
@@ -41,9 +40,9 @@ pub record SameBytes (n : ℕ) (s : State) (k : Kept) : Type 0 where
 
 -- the lists, the fates by their codes, and who can move
 pub record SameLists (n : ℕ) (s : State) (t : Schedule) (k : Kept) : Type 0 where
-  pub list : Holds t.lists.list s.list
-  pub next : Holds t.lists.next s.next
-  pub waiting : Holds t.lists.waiting s.waiting
+  pub list : t.lists.list ≡ s.list
+  pub next : t.lists.next ≡ s.next
+  pub waiting : t.lists.waiting ≡ s.waiting
   pub away : t.away ≡ away_in s s.list
   pub fates : (w : ℕ) → w < n → get_or k.fates w 0 ≡ fate_code (worker_at s w).fate
   pub able : (w : ℕ) → w < workers_limit → get_or k.can w false ≡ can s w

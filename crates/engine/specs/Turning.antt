@@ -11,7 +11,6 @@ use Rattle.plan.specs.Sleeping.{FirstFates}
 use Rattle.plan.specs.declared.decode.Record.{Record}
 use Rattle.pages.specs.Copies.{Lent}
 use Rattle.moves.specs.Moves.{fetched_as}
-use Rattle.queue.specs.List.{Holds}
 use Rattle.token.specs.Token.{raised, FirstAble}
 use Rattle.engine.specs.declared.state.Schedule.{Schedule}
 use Rattle.engine.specs.declared.state.Reached.{Reached}
@@ -78,9 +77,9 @@ awake n fates = keep (λ w. eqb (get_or fates w 0) code_going) (up_to n)
 
 -- the schedule of round 1, and who can move
 pub record RoundBegun (n : ℕ) (fates : List ℕ) (can : List Bool) (memory : List ℕ) (t : Schedule) (can' : List Bool) : Type 0 where
-  pub list : Holds t.lists.list (awake n fates)
-  pub next : Holds t.lists.next []
-  pub waiting : Holds t.lists.waiting []
+  pub list : t.lists.list ≡ awake n fates
+  pub next : t.lists.next ≡ []
+  pub waiting : t.lists.waiting ≡ []
   pub away : t.away ≡ length (awake n fates)
   pub moves : t.counts.moves ≡ 0
   pub rounds : t.counts.rounds ≡ 0

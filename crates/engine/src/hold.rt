@@ -8,7 +8,7 @@ ghost use Rattle.journal.specs.Bytes.{entry_as};
 ghost use Rattle.writer.specs.Appended.{Appending};
 ghost use Rattle.pages.specs.Copies.{Lent};
 ghost use Rattle.engine.specs.Kept.{kept_of};
-ghost use Rattle.engine.specs.Holding.{BytesSettled};
+ghost use Rattle.engine.specs.Holding.{BytesSettled, head_of, lists_begun};
 ghost use Rattle.engine.specs.Moving.{Syncing, Synced};
 
 use crate::state::{Engine, Schedule};
@@ -20,6 +20,7 @@ use journal::log::packed;
 use journal::report::Counts;
 use pages::{SLOTS, discard};
 use plan::decode::Record;
+use queue::Queue;
 use rules::ruling::Uncommitted;
 use token::turn_over;
 use writer::LogWriter;
@@ -43,6 +44,31 @@ fn settle_bytes(
             discard(copied, h);
             sum
         }
+    }
+}
+
+// The first of a list, if there is one.
+fn head(list: Queue) -> Option<u64>
+    ensures { result ≡ head_of list }
+{
+    if list.is_empty() {
+        None
+    } else {
+        Some(list.first())
+    }
+}
+
+// The lists behind a step: where the next list begins the next round, it is this round's, and nobody is in the next.
+fn begun(lists: Lists, next: Option<Queue>) -> Lists
+    ensures { result ≡ lists_begun lists next }
+{
+    match next {
+        Some(list) => Lists {
+            list,
+            next: Queue::empty(),
+            ..lists
+        },
+        None => lists,
     }
 }
 
@@ -92,13 +118,15 @@ impl Engine {
         let records = record_step(r, w, stepped.outcome, counts.rounds, counts.records, log);
         self.places[w] = v.place;
         self.held[w] = v.held;
-        let round = turn_over(after.list, after.next, w, counts.rounds, &mut self.can);
+        let round = turn_over(
+            head(after.list),
+            after.next,
+            w,
+            counts.rounds,
+            &mut self.can,
+        );
         Schedule {
-            lists: Lists {
-                list: round.list,
-                next: round.next,
-                waiting: after.waiting,
-            },
+            lists: begun(after, round.begun),
             away: round.away,
             counts: Counts {
                 moves: counts.moves + 1,

@@ -32,7 +32,7 @@ pub fn again(whole: bool, next: usize, can: &[bool; WORKERS_LIMIT]) -> usize
     ensures { Again whole next can.now result }
 {
     if whole {
-        return CYCLES + STRETCH * first_able(can);
+        return CYCLES + STRETCH * first_able(can).unwrap_or(WORKERS_LIMIT);
     }
     next
 }

@@ -79,13 +79,14 @@ pub fn play(
                 let w = turns[i] as usize;
                 t = engine.sync(r, w, t, sizes, memory, log, work);
                 // After the end every turn passes.
-                if t.lists.list.is_empty() {
+                let lists = t.lists;
+                if lists.list.is_empty() {
                     return Played {
                         schedule: t,
                         fates: engine.fates,
                     };
                 }
-                i = onward(whole, t.away, t.lists.list.first(), i + 1);
+                i = onward(whole, t.away, lists.list.first(), i + 1);
             }
             None => {
                 i = again(whole, i, &engine.can);

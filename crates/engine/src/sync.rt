@@ -24,7 +24,8 @@ impl Engine {
         ensures { Synced r w t sizes.now (kept_of self.old memory.old log.old work.now) result (kept_of self.new memory.new log.new work.now) }
     {
         if 0 < t.away {
-            let away = arrive(t.lists.list, t.away, w, &mut self.can);
+            let lists = t.lists;
+            let away = arrive(lists.list.first(), t.away, w, &mut self.can);
             return Schedule {
                 away,
                 counts: Counts {

@@ -3,7 +3,6 @@ use native.Mathlib.Omega.{arith}
 use Prim.Native.Nat.{◌+◌, ◌-◌, ◌*◌}
 use mathlib.Core.Path.{refl}
 use lib.ListN.{length}
-use Rattle.queue.specs.List.{list_of}
 use Rattle.engine.proofs.Playing.{plan-sound}
 use Rattle.engine.proofs.Played.{unpicked, some_left, begins, goes_on, goes-again, again-moves, turning, went_on, no-fewer, one-at-least, syncing}
 use Rattle.engine.proofs.Played.{stands_on, rises-on, first_small, few-moves, ends-here, all-played, falls, right-falls, one_at_most, sure}
@@ -40,7 +39,7 @@ pub onward-i-requires : goal.onward-i-requires
 onward-i-requires c =
     let on = c.own-own.ensures in
     let stands = stands_on c.requires c.loop-i.invariant.so on.turned on.same_fates (rw c.in-Some.is at on.turned.stopped) c.sync-t.ensures in
-    omega (arith, c.first.ensures, first_small c.requires stands (some_left (list_of c.sync-t.result.lists.list) c.is_empty.ensures c.if-is_empty.false))
+    omega (arith, c.first.ensures, first_small c.requires stands (some_left c.sync-t.result.lists.list c.is_empty.ensures c.if-is_empty.false))
 
 pub loop-i-smaller-in-Some : goal.loop-i-smaller-in-Some
 loop-i-smaller-in-Some c =

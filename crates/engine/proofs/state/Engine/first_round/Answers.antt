@@ -4,5 +4,4 @@ use Rattle.engine.proofs.state.Engine.first_round.Goals as goal
 
 pub raise-requires : goal.raise-requires
 raise-requires c =
-    let h = c.among-list.ensures in
-    (h.good, awake-below c.args.self.now.fates c.requires.0 h.list)
+    awake-below c.args.self.now.fates c.requires.0 c.among-list.ensures

@@ -7,7 +7,7 @@ use Rattle.worker.specs.Private.{held_as}
 use Rattle.worker.specs.declared.Moved.{Moved}
 use Rattle.worker.specs.declared.Worker.{Worker}
 use Rattle.engine.proofs.Here.{small, place-small, held-shown, moves-small}
-use Rattle.engine.proofs.Holder.{deciding, rounds-fit, records-fit, list-below, next-below, shown}
+use Rattle.engine.proofs.Holder.{deciding, rounds-fit, records-fit, head-below, list-below, next-below, shown}
 use Rattle.engine.proofs.state.Engine.hold.Goals as goal
 
 pub offset_bounds-self-w : goal.offset_bounds-self-w
@@ -52,7 +52,7 @@ record_step-records-requires c =
 pub turn_over-round-requires : goal.turn_over-round-requires
 turn_over-round-requires c =
     let x = c.decide-d.ensures _ (held-shown c.requires.1.here) in
-    (small c.requires.1.here, rounds-fit c.requires.1, list-below c.requires.1 x c.requires.0, x.carried.moved.next.good, next-below c.requires.1 x c.requires.0)
+    (rw c.head.ensures (head-below c.decide-d.result.lists.list (list-below c.requires.1 x c.requires.0)), small c.requires.1.here, rounds-fit c.requires.1, next-below c.requires.1 x c.requires.0)
 
 pub overflow_add-result : goal.overflow_add-result
 overflow_add-result c =
@@ -61,12 +61,15 @@ overflow_add-result c =
 pub returns : goal.returns
 returns c =
     λ h.
-    shown h (c.decide-d.ensures _ (held-shown h.here)) c.requires.0
+    rw c.begun.ensures
+    (shown h (c.decide-d.ensures _ (held-shown h.here)) c.requires.0
     (ap (λ (q : Moved ℕ). q.worker) c.synchronise-stepped.ensures ∙ ap (λ (v : Worker). held_as v c.decide-d.result.held) c.worker.ensures)
     c.settle_bytes-sum.ensures
     (ap (λ (q : Moved ℕ). q.outcome) c.synchronise-stepped.ensures)
     c.record_step-records.ensures.0
     c.record_step-records.ensures.1
-    c.turn_over-round.ensures
+    c.turn_over-round.result
+    c.turn_over-round.new.can
+    (rw c.head.ensures at c.turn_over-round.ensures)
     (omega arith)
-    (omega arith)
+    (omega arith))

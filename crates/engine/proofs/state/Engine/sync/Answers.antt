@@ -7,7 +7,10 @@ use Rattle.engine.proofs.state.Engine.sync.Goals as goal
 pub arrive-away-requires : goal.arrive-away-requires
 arrive-away-requires c =
     let a = c.requires.here in
-    (small a, c.if-t-gt0.true, list-some a, first_small a)
+    (rw c.first.ensures.value (first_small a), small a, c.if-t-gt0.true)
+
+pub first-requires : goal.first-requires
+first-requires c = list-some c.requires.here
 
 pub overflow_add-result : goal.overflow_add-result
 overflow_add-result c = omega (arith, moves-small c.requires.here)
@@ -15,4 +18,4 @@ overflow_add-result c = omega (arith, moves-small c.requires.here)
 pub returns-then-t-gt0 : goal.returns-then-t-gt0
 returns-then-t-gt0 c =
     λ h.
-    arrive-simulates h.here (sync-here h.here h.fetched h.syncs) c.if-t-gt0.true c.arrive-away.ensures.0 c.arrive-away.ensures.1
+    arrive-simulates h.here (sync-here h.here h.fetched h.syncs) c.if-t-gt0.true c.arrive-away.ensures.0 (rw c.first.ensures.value at c.arrive-away.ensures.1)
