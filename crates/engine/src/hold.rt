@@ -16,7 +16,7 @@ use commits::commit;
 use decisions::decision::decide;
 use decisions::lists::Lists;
 use format::limits::BARRIER_COUNT;
-use journal::log::packed;
+use journal::log::Entry;
 use journal::report::Counts;
 use pages::{SLOTS, discard};
 use plan::decode::Record;
@@ -87,9 +87,15 @@ fn record_step(
         ≡ sets log.old (entry_length * records) (entry_bytes (entry_as (rounds + 1) h r.op r.number outcome))) }
 {
     let round = (rounds + 1) as u16;
-    let entry = packed(round, h as u8, r.op, r.number as u8, outcome);
+    let entry = Entry {
+        round,
+        worker: h as u8,
+        op: r.op,
+        number: r.number as u8,
+        outcome,
+    };
     let mut writer = LogWriter { log, records };
-    writer.append(entry);
+    writer.append(&entry.to_bytes());
     writer.records
 }
 

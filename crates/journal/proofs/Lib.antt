@@ -1,2 +1,2 @@
--- A log record and the parts of a report as one number each, and the bytes of both.
+-- What a record more makes of the log, and what a report written in three parts is.
 pub mod Packing

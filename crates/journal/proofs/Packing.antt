@@ -1,6 +1,6 @@
--- A log record and the parts of a report packed into one number each, and what a record more makes of the log's bytes.
-use Prim.Native.Nat.{ℕ, suc, ◌+◌, ◌-◌, ◌*◌, ◌/◌, ◌%◌, ◌<◌, ◌≤◌}
-use mathlib.Core.Path.{◌≡◌, refl, ap, sym, ◌∙◌}
+-- What a record more makes of the log's bytes, and what a report written in three parts is.
+use Prim.Native.Nat.{ℕ, ◌+◌, ◌-◌, ◌*◌, ◌/◌, ◌%◌, ◌≤◌}
+use mathlib.Core.Path.{◌≡◌, ap, sym, ◌∙◌}
 use mathlib.Core.List.{List, [], ◌∷◌, ◌++◌, append_assoc, append-nil}
 use native.Mathlib.Omega.{arith}
 use lib.ListN.{length, take, drop, length-append, drop_of_length-le}
@@ -9,42 +9,8 @@ use lib.Seq.{sets, sets-eq, take_at, drop_at, length-take-le}
 use Rattle.std.specs.Int.{to_le_bytes, w32}
 use Rattle.protocol.specs.Format.{workers_limit}
 use Rattle.protocol.specs.Rounds.{Entry}
-use Rattle.protocol.specs.Report.{entry_length, log_mark, two_bytes, four_bytes, entry_bytes, log_bytes, report_sum}
-use Rattle.words.specs.Bytes.{bytes_of}
-use Rattle.journal.specs.Bytes.{entry_as}
+use Rattle.protocol.specs.Report.{entry_length, four_bytes, entry_bytes, log_bytes, report_sum}
 use Rattle.journal.specs.Offsets.{tallies_length, report_fates}
-
--- the lowest byte, and the number of the others
-lowest : (a m : ℕ) → a < 256 → (a + 256 * m) % 256 ≡ a
-lowest a m h = omega arith
-
-higher : (a m : ℕ) → a < 256 → (a + 256 * m) / 256 ≡ m
-higher a m h = omega arith
-
-peel : (k n a m : ℕ) → a < 256 → n ≡ a + 256 * m → bytes_of (suc k) n ≡ a ∷ bytes_of k m
-peel k n a m h e =
-    ap (λ (x : ℕ). bytes_of (suc k) x) e
-    ∙ (ap (λ (x : ℕ). x ∷ bytes_of k ((a + 256 * m) / 256)) (lowest a m h) ∙ ap (λ (x : ℕ). a ∷ bytes_of k x) (higher a m h))
-
--- a number of two bytes, and the number of the others
-peel-two : (k n a m : ℕ) → a < 65536 → n ≡ a + 65536 * m → bytes_of (suc (suc k)) n ≡ two_bytes a ++ bytes_of k m
-peel-two k n a m h e =
-    let high : a / 256 ≡ a / 256 % 256 = omega arith in
-    peel (suc k) n (a % 256) (a / 256 + 256 * m) (omega arith) (omega arith)
-    ∙ ap (λ (l : List ℕ). a % 256 ∷ l) (peel k (a / 256 + 256 * m) (a / 256) m (omega arith) refl ∙ ap (λ (x : ℕ). x ∷ bytes_of k m) high)
-
--- any number of a record's value, however the sum is written
-pub packs : (n r w o k c : ℕ) → n ≡ log_mark + 65536 * r + 4294967296 * (w + 256 * o + 65536 * (k + 256 * c))
-    → r < 65536 → w < 256 → o < 256 → k < 256 → c < 256 → bytes_of entry_length n ≡ entry_bytes (entry_as r w o k c)
-packs n r w o k c is hr hw ho hk hc =
-    let m₅ = o + 256 * (k + 256 * c) in
-    let last : c % 256 ≡ c = omega arith in
-    peel-two 6 n log_mark (r + 65536 * (w + 256 * m₅)) (omega arith) (omega arith)
-    ∙ ap (λ (l : List ℕ). two_bytes log_mark ++ l)
-    (peel-two 4 _ r (w + 256 * m₅) hr refl
-    ∙ ap (λ (l : List ℕ). two_bytes r ++ l)
-    (peel 3 _ w m₅ hw refl
-    ∙ ap (λ (l : List ℕ). w ∷ l) (peel 2 _ o (k + 256 * c) ho refl ∙ ap (λ (l : List ℕ). o ∷ l) (peel 1 _ k c hk refl ∙ ap (λ (x : ℕ). k ∷ x ∷ []) last))))
 
 log_bytes-more : (es : List Entry) (e : Entry) → log_bytes (es ++ (e ∷ [])) ≡ log_bytes es ++ entry_bytes e
 unfolding log_bytes

@@ -1,7 +1,6 @@
 // The log: records of eight bytes each.
 ghost use Rattle.std.specs.Prelude.{◌≡◌, ◌++◌, ◌-◌, ◌*◌, ◌≤◌, length, take, replicate};
 ghost use Rattle.protocol.specs.Report.{entry_length, entry_bytes};
-ghost use Rattle.words.specs.Bytes.{bytes_of};
 ghost use Rattle.journal.specs.Bytes.{entry_as};
 
 use format::limits::{STEPS_LIMIT, WORKERS_LIMIT};
@@ -54,15 +53,6 @@ impl Entry {
             self.outcome,
         ]
     }
-}
-
-// A record as one number, its first byte lowest.
-pub fn packed(round: u16, worker: u8, op: u8, number: u8, outcome: u8) -> u64
-    ensures { bytes_of entry_length result ≡ entry_bytes (entry_as round worker op number outcome) }
-{
-    let tail = number as u64 + 256 * (outcome as u64);
-    let body = worker as u64 + 256 * (op as u64) + 65536 * tail;
-    LOG_MARK as u64 + 65536 * (round as u64) + 4294967296 * body
 }
 
 // Clears what is behind the records.

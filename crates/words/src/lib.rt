@@ -2,9 +2,8 @@
 #![tactic(auto)]
 
 ghost use Rattle.std.specs.Prelude.{◌≡◌, ◌+◌, ◌/◌, ◌%◌, ◌≤◌, length, replicate};
-ghost use Rattle.std.proofs.lemmas.List.Edits.{sets};
 ghost use Rattle.protocol.specs.Format.{long_at, word as Format·word};
-ghost use Rattle.words.specs.Bytes.{word_at, bytes_of};
+ghost use Rattle.words.specs.Bytes.{word_at};
 
 // Two bytes as a number.
 pub fn word(low: u8, high: u8) -> u16
@@ -41,18 +40,6 @@ pub fn high_byte(number: u16) -> u8
 {
     let [_, high] = number.to_le_bytes();
     high
-}
-
-// Writes so many bytes of a number, the lowest first, from a place on.
-pub fn put(bytes: &mut [u8], at: usize, count: usize, number: u64)
-    requires { at + count ≤ length bytes.old }
-    ensures { bytes.new ≡ sets bytes.old at (bytes_of count number) }
-{
-    let mut left = number;
-    for k in 0..count {
-        bytes[at + k] = (left % 256) as u8;
-        left /= 256;
-    }
 }
 
 // Sets every byte to 0.

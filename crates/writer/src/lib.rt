@@ -5,7 +5,6 @@ ghost use Rattle.std.specs.Prelude.{◌≡◌, ◌+◌};
 ghost use Rattle.writer.specs.Appended.{Appending, Appended};
 
 use journal::log::ENTRY_LENGTH;
-use words::put;
 
 #[derive(Drop)]
 pub struct LogWriter<'a> {
@@ -14,19 +13,19 @@ pub struct LogWriter<'a> {
 }
 
 // Writes a record behind those that the log has.
-fn append_at(log: &mut [u8], records: usize, entry: u64)
+fn append_at(log: &mut [u8], records: usize, entry: &[u8; ENTRY_LENGTH])
     requires { Appending log.old records }
-    ensures { Appended log.old records entry (records + 1) log.new }
+    ensures { Appended log.old records entry.now (records + 1) log.new }
 {
     let at = ENTRY_LENGTH * records;
-    put(log, at, ENTRY_LENGTH, entry);
+    log[at..at + ENTRY_LENGTH].copy_from_slice(entry);
 }
 
 impl<'a> LogWriter<'a> {
     // One record more in the same log.
-    pub fn append(&mut self, entry: u64)
+    pub fn append(&mut self, entry: &[u8; ENTRY_LENGTH])
         requires { Appending self.old.log.now self.old.records }
-        ensures appended { Appended self.old.log.now self.old.records entry self.new.records self.new.log.now }
+        ensures appended { Appended self.old.log.now self.old.records entry.now self.new.records self.new.log.now }
         ensures same_log { self.new.log.ghost_name ≡ self.old.log.ghost_name }
     {
         append_at(self.log, self.records, entry);

@@ -1,0 +1,2 @@
+-- Bytes copied to a place of a log.
+pub mod Placed
