@@ -4,8 +4,7 @@
 #     (Rattle.std.proofs is the kit's library, words and lemmas alike); nothing is imported that is not used;
 #   - no library names the system's runtime: what it prints or reads by, a program hands to it;
 #   - no name stands for two things: a definition in the specs, a type in specs and proofs, a type of the code but for those that are its form of a definition's;
-#   - no number from 3 up stands in the code outside of a constant, a contract or the one match that numbers the refusals, whose names are the
-#     enum's, but for those of `meant` below, each with its reason; ops, fates and outcomes that are 0, 1 or 2 have their names too;
+#   - no number from 3 up stands in the code outside of a constant, a contract or the one enum that numbers the refusals, but for those of `meant` below, each with its reason; ops, fates and outcomes that are 0, 1 or 2 have their names too;
 #   - whether a step synchronises is decided in one place, crates/format/src/points.rt, which has a case for each op of the table, in its order;
 #   - an op has one number and one word in the code, the definitions and the header, and so have the limits of the format; each op of the header has its text;
 #   - no line is longer than 200 characters.
@@ -126,7 +125,7 @@ complain "stands for two things" < <(declared 0 $(files '*.antt' | grep /specs/)
 complain "is two types" < <(declared 1 $(files '*.antt'))
 
 # Types of the code whose name a type of the definitions has: it is the code's form of that thing.
-forms='Goes Record Refusal Row Ruling Uncommitted Verdict Worker'
+forms='End Entry Fate Goes Record Refusal Row Ruling Uncommitted Worker'
 in_rattle() { sed -nE 's/^(pub )?(struct|enum) ([A-Za-z]+).*/\3/p' $(files '*.rt') | sort; }
 types() { sed -nE 's/^(pub )?(record|data) ([^ ]+).*/\3/p' $(files '*.antt') | sort -u; }
 complain "is two types of the code" < <(in_rattle | uniq -d)
@@ -143,6 +142,7 @@ meant() {
 * 255 the greatest byte
 queue 16 the base of a queue's digits
 worker 16 the bits of a register
+words 3 the place of the last of four bytes
 text 10 decimal digits
 text 48 the digit 0 in ASCII
 END
@@ -155,7 +155,7 @@ code() {
             my $text = source($file);
             clauses($file, $text);
             constants($file, $text);
-            $text =~ s/^ *Refusal::[A-Za-z]+ => [0-9]+,$//mg;
+            $text =~ s/^pub enum Refusal \{.*?^\}$/blank($&)/mse;
             $text =~ s/^ *ghost use [^;]*;/blank($&)/mge;
             my $line = 0;
             for (split /\n/, $text) { $line++; print "$file:$line:$_\n" if /\S/ }

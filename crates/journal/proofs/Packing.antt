@@ -34,7 +34,8 @@ record-more log es e records fits old =
 overwritten : (m front rest z : List ℕ) (k : ℕ) → m ≡ front ++ rest → length front ≡ k → put_mid k (length m - k) m z ≡ front ++ z
 overwritten m front rest z k e h =
     rw (e, take_at front rest k h, drop_at front rest k h)
-    (ap (λ (l : List ℕ). front ++ (z ++ l)) (drop_of_length-le rest {i = length (front ++ rest) - k} (let n = length-append front rest in omega arith)) ∙ ap (λ (l : List ℕ). front ++ l) (append-nil z))
+    (ap (λ (l : List ℕ). front ++ (z ++ l)) (drop_of_length-le rest {i = length (front ++ rest) - k} (let n = length-append front rest in omega arith))
+    ∙ ap (λ (l : List ℕ). front ++ l) (append-nil z))
 
 -- the sum's four bytes
 pub sum-bytes : (n : ℕ) → to_le_bytes w32 n ≡ four_bytes n

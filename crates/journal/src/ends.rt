@@ -18,5 +18,3 @@ impl From<End> for u8 {
         end as u8
     }
 }
-
-pub const FINISHED: u8 = End::Finished as u8;

@@ -11,7 +11,7 @@ use lib.ListN.{length, get_or}
 use Rattle.protocol.specs.Ops.{op_signal, op_broadcast, op_barrier, op_start}
 use Rattle.protocol.specs.Rounds as rounds
 use Rattle.protocol.specs.Format.{by_name}
-use Rattle.protocol.specs.Rounds.{member, committed, keeps, gives_at_zero, commits_at_zero, lock_rule, given_back, unlock_rule, wait_rule, signal_rule}
+use Rattle.protocol.specs.Rounds.{member, committed, keeps, lock_rule, unlock_rule, wait_rule, signal_rule}
 use Rattle.protocol.specs.Rounds.{broadcast_rule, barrier_rule, start_rule, exit_rule, rule_of}
 use Rattle.protocol.specs.Steps.{Fate}
 use Rattle.protocol.specs.Turns.{none_left}

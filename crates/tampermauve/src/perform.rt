@@ -33,7 +33,6 @@ pub fn perform(
         work,
     );
     let t = played.schedule;
-    let fates = played.fates;
-    let counts = t.counts;
-    close_buffers(t.lists.list, counts, &fates, workers, t.sum, log, report);
+    let ended = t.lists.list.is_empty();
+    close_buffers(ended, t.counts, &played.fates, workers, t.sum, log, report);
 }

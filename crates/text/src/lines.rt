@@ -5,7 +5,7 @@ ghost use Rattle.protocol.specs.Listing.{space, record_line, log_lines, end_word
 ghost use Rattle.text.specs.Text.{record_line_limit, end_word_limit, end_line_limit, refusal_line_limit, room, WroteWithin, entry_at, entries_from, end_numbered, last_line};
 
 use crate::Text;
-use journal::ends;
+use journal::ends::End;
 use journal::log::{
     ENTRY_LENGTH, ENTRY_NUMBER, ENTRY_OP, ENTRY_OUTCOME, ENTRY_ROUND, ENTRY_WORKER,
 };
@@ -49,7 +49,7 @@ impl<'a> Text<'a> {
         requires { end_word_limit ≤ room self.old }
         ensures { WroteWithin end_word_limit self.old (end_word (end_numbered end) ++ (space ∷ [])) self.new }
     {
-        if end == ends::FINISHED {
+        if end == End::Finished as u8 {
             self.write_bytes(b"finished ");
         } else {
             self.write_bytes(b"stuck ");

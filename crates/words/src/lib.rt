@@ -1,7 +1,7 @@
 // Bytes and two-byte words in lent slices. Numbers stand low byte first.
 #![tactic(auto)]
 
-ghost use Rattle.std.specs.Prelude.{◌≡◌, ◌+◌, ◌/◌, ◌%◌, ◌≤◌, length, replicate};
+ghost use Rattle.std.specs.Prelude.{◌≡◌, ◌+◌, ◌≤◌, length, replicate};
 ghost use Rattle.protocol.specs.Format.{long_at, word as Format·word};
 ghost use Rattle.words.specs.Bytes.{word_at};
 
@@ -26,20 +26,6 @@ pub fn long_at(bytes: &[u8], at: usize) -> u32
     ensures { result ≡ long_at bytes.now at }
 {
     u32::from_le_bytes([bytes[at], bytes[at + 1], bytes[at + 2], bytes[at + 3]])
-}
-
-pub fn low_byte(number: u16) -> u8
-    ensures { result ≡ number % 256 }
-{
-    let [low, _] = number.to_le_bytes();
-    low
-}
-
-pub fn high_byte(number: u16) -> u8
-    ensures { result ≡ number / 256 }
-{
-    let [_, high] = number.to_le_bytes();
-    high
 }
 
 // Sets every byte to 0.

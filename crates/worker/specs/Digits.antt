@@ -21,8 +21,8 @@ abbrev pub as_number : List ℕ → ℕ
 as_number [] = 0
 as_number (x ∷ xs) = x + 65536 * as_number xs
 
-abbrev pub packed : List ℕ → Inside
-packed xs = record { digits = as_number xs }
+abbrev pub from_numbers : List ℕ → Inside
+from_numbers xs = record { digits = as_number xs }
 
 -- the digits give the number back
 pub number_back : (n : ℕ) → n < 18446744073709551616 → as_number (digits n) ≡ n
@@ -40,5 +40,5 @@ number_back n small = chained (digit n 0) (digit n 1) (digit n 2) (digit n 3) lo
     last : n / 4294967296 ≡ digit n 2 + 65536 * digit n 3
     last = omega arith
 
-pub packed_back : (a : Inside) → Fits a → packed (numbers_of a) ≡ a
-packed_back a small = rw (number_back a.digits small) refl
+pub from_numbers_back : (a : Inside) → Fits a → from_numbers (numbers_of a) ≡ a
+from_numbers_back a small = rw (number_back a.digits small) refl

@@ -15,15 +15,15 @@ impl Model for Registers {
 
     ghost Value = { List ℕ };
 
-    ghost use Rattle.worker.specs.Digits.{numbers_of, Fits, packed, packed_back};
+    ghost use Rattle.worker.specs.Digits.{numbers_of, Fits, from_numbers, from_numbers_back};
 
     ghost view = { numbers_of };
 
     ghost invariant = { Fits };
 
-    ghost inverse = { packed };
+    ghost inverse = { from_numbers };
 
-    ghost inverse_ok = { packed_back };
+    ghost inverse_ok = { from_numbers_back };
 }
 
 impl Registers {

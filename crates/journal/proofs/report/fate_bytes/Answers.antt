@@ -8,4 +8,6 @@ use Rattle.journal.proofs.report.fate_bytes.Goals as goal
 
 pub returns : goal.returns
 unfolding count_from
-returns c = fill_by_all (λ w. shown c.args.workers w (get_or c.args.fates.now w 0)) c.loop-w.byte-items workers_limit 0 c.loop-w-test.array_long (λ k h. c.loop-w.invariant.done k (omega (arith, h, c.loop-w-test.false)))
+returns c =
+    fill_by_all (λ w. shown c.args.workers w (get_or c.args.fates.now w 0)) c.loop-w.byte-items workers_limit 0 c.loop-w-test.array_long
+    (λ k h. c.loop-w.invariant.done k (omega (arith, h, c.loop-w-test.false)))

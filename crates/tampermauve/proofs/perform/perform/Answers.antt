@@ -16,6 +16,6 @@ returns c =
       listed = out.listed;
       ends = out.ends;
       same_memory = sym out.over.refines.bytes.shared;
-      same_log = log-same _ _ _ given.named.laid.ok c.play-played.result _ given.workers out.over c.close_buffers.ensures;
-      same_report = report-left _ _ _ given.named.laid.ok c.play-played.result _ given.workers out.over c.close_buffers.ensures;
+      same_log = log-same _ _ _ given.named.laid.ok c.play-played.result _ given.workers out.over (c.close_buffers.ensures _ c.is_empty-ended.ensures);
+      same_report = report-left _ _ _ given.named.laid.ok c.play-played.result _ given.workers out.over (c.close_buffers.ensures _ c.is_empty-ended.ensures);
     }
