@@ -1,5 +1,7 @@
 -- What the decoder finds, by the mark.
 pub mod Decoding
+-- The records of seven bytes as a file.
+pub mod Recorded
 -- One record of the reading, and the barrier records.
 pub mod Readings
 -- What the row of an op tells.

@@ -1,10 +1,16 @@
 -- What the parts of the check find: the records up to an index, and what is left of the check from there.
-use Rattle.std.specs.Prelude.{ℕ, ◌-◌, ◌*◌, ◌<◌, ◌≤◌, Bool, false, ◌||◌, ◌≡◌, List, ltb, length, get_or}
+use Rattle.std.specs.Prelude.{ℕ, ◌-◌, ◌*◌, ◌<◌, ◌≤◌, Bool, false, ◌||◌, ◌≡◌, List, [], ◌∷◌, ltb, length, get_or}
 use Rattle.protocol.specs.Format as format
 use Rattle.protocol.specs.Refusals as protocol
 use Rattle.plan.specs.Answer.{record_of}
 use Rattle.plan.specs.declared.barriers.Barriers.{Barriers}
 use Rattle.plan.specs.declared.decode.Record.{Record}
+
+-- the file of records of seven bytes each
+unfoldable pub file_of : List (List ℕ) → List ℕ
+file_of [] = []
+file_of (r ∷ rs) =
+    get_or r 0 0 ∷ (get_or r 1 0 ∷ (get_or r 2 0 ∷ (get_or r 3 0 ∷ (get_or r 4 0 ∷ (get_or r 5 0 ∷ (get_or r 6 0 ∷ file_of rs))))))
 
 abbrev pub file_record : List ℕ → ℕ → format.Record
 file_record file i = format.record_from file (format.record_length * i)

@@ -1,8 +1,7 @@
 // The barrier records.
-ghost use Rattle.std.specs.Prelude.{◌≡◌, ◌*◌, ◌≤◌, length, MatchResult};
-ghost use Rattle.protocol.specs.Format.{record_length};
+ghost use Rattle.std.specs.Prelude.{◌≡◌, ◌≤◌, length, MatchResult};
 ghost use Rattle.plan.specs.Answer.{refused_as};
-ghost use Rattle.plan.specs.Reading.{verdict_from, RulesHold, refuses_barrier, BarriersRead};
+ghost use Rattle.plan.specs.Reading.{file_of, verdict_from, RulesHold, refuses_barrier, BarriersRead};
 
 use crate::answer::{Refusal, Refused};
 use crate::decode::{Record, decode};
@@ -28,16 +27,15 @@ fn bad_barrier(low: u8, r: Record) -> bool
 }
 
 // Reads the records behind the plan record as long as they are barrier records.
-pub fn read_barriers(file: &[u8], count: usize) -> Result<Barriers, Refused>
-    requires count_in_bounds { record_length * count ≤ length file.now }
-    requires le_count { 1 ≤ count }
-    requires rules_hold { RulesHold file.now 1 }
-    ensures { MatchResult result (λ b. BarriersRead file.now count b) (λ e. verdict_from file.now count 1 ≡ refused_as e) }
+pub fn read_barriers(records: &[[u8; RECORD_LENGTH]]) -> Result<Barriers, Refused>
+    requires some_records { 1 ≤ length records.now }
+    requires rules_hold { RulesHold (file_of records.now) 1 }
+    ensures { MatchResult result (λ b. BarriersRead (file_of records.now) (length records.now) b) (λ e. verdict_from (file_of records.now) (length records.now) 1 ≡ refused_as e) }
 {
     let mut sizes = [0u8; BARRIER_COUNT];
     let mut low = 0u8;
-    for i in 1..count {
-        let Some(r) = decode(file, RECORD_LENGTH * i) else {
+    for i in 1..records.len() {
+        let Some(r) = decode(&records[i]) else {
             return Err(Refusal::BadMark.at(i));
         };
         if r.op != ops::BARRIER_RECORD {
@@ -49,5 +47,8 @@ pub fn read_barriers(file: &[u8], count: usize) -> Result<Barriers, Refused>
         sizes[r.register as usize] = (r.number % 256) as u8;
         low = r.register + 1;
     }
-    Ok(Barriers { sizes, next: count })
+    Ok(Barriers {
+        sizes,
+        next: records.len(),
+    })
 }

@@ -48,14 +48,14 @@ pub fn check(file: &[u8]) -> Result<Layout, Refused>
     if bad_length(bytes) {
         return Err(Refusal::BadLength.at(0));
     }
-    let count = bytes / RECORD_LENGTH;
-    let Some(first) = decode(file, 0) else {
+    let (records, _) = file.as_chunks::<RECORD_LENGTH>();
+    let Some(first) = decode(&records[0]) else {
         return Err(Refusal::BadMark.at(0));
     };
     if bad_plan(first) {
         return Err(Refusal::BadPlan.at(0));
     }
-    let barriers = read_barriers(file, count)?;
+    let barriers = read_barriers(records)?;
     let sizes = barriers.sizes;
     // It is filled in its place: arrays that are copied into it would stall on the bytes just written.
     let mut layout = Layout {
@@ -64,8 +64,8 @@ pub fn check(file: &[u8]) -> Result<Layout, Refused>
         firsts: [0usize; WORKERS_LIMIT + 1],
         fates: [GOING; WORKERS_LIMIT],
     };
-    let next = read_sleepers(file, count, first.worker, barriers.next, &mut layout.fates)?;
-    read_steps(file, count, first.worker, &sizes, next, &mut layout.firsts)?;
-    check_skips(file, count, &layout.firsts)?;
+    let next = read_sleepers(records, first.worker, barriers.next, &mut layout.fates)?;
+    read_steps(records, first.worker, &sizes, next, &mut layout.firsts)?;
+    check_skips(records, &layout.firsts)?;
     Ok(layout)
 }

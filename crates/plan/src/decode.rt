@@ -3,7 +3,9 @@ ghost use Rattle.std.specs.Prelude.{◌≡◌, ◌+◌, ◌≤◌, length};
 ghost use Rattle.protocol.specs.Format.{record_length, record_from};
 ghost use Rattle.plan.specs.Answer.{body_of, decoded_of};
 
-use format::limits::{PLAN_MARK, RECORD_NUMBER, RECORD_OP, RECORD_REGISTER, RECORD_WORKER};
+use format::limits::{
+    PLAN_MARK, RECORD_LENGTH, RECORD_NUMBER, RECORD_OP, RECORD_REGISTER, RECORD_WORKER,
+};
 use words::word;
 
 #[derive(Clone, Copy, PartialEq, Eq)]
@@ -30,13 +32,12 @@ pub fn body(file: &[u8], at: usize) -> Record
     }
 }
 
-// The record whose first byte is at a position, if it has the mark.
-pub fn decode(file: &[u8], at: usize) -> Option<Record>
-    requires { at + record_length ≤ length file.now }
-    ensures { result ≡ decoded_of (record_from file.now at) }
+// The record of seven bytes, if it has the mark.
+pub fn decode(record: &[u8; RECORD_LENGTH]) -> Option<Record>
+    ensures { result ≡ decoded_of (record_from record.now 0) }
 {
-    if word(file[at], file[at + 1]) != PLAN_MARK {
+    if word(record[0], record[1]) != PLAN_MARK {
         return None;
     }
-    Some(body(file, at))
+    Some(body(record, 0))
 }

@@ -1,9 +1,9 @@
 // The skips: none may land further than just behind its worker's last step.
-ghost use Rattle.std.specs.Prelude.{◌≡◌, true, ◌*◌, ◌≤◌, ◌<◌, length};
+ghost use Rattle.std.specs.Prelude.{◌≡◌, true, ◌≤◌, ◌<◌, length};
 ghost use Rattle.plan.specs.Answer.{verdict_of};
-ghost use Rattle.plan.specs.Reading.{before};
+ghost use Rattle.plan.specs.Reading.{file_of, before};
 ghost use Rattle.plan.specs.Skipping.{too_far, SkipChecking};
-ghost use Rattle.protocol.specs.Format.{record_length, records_limit, workers_limit, is_skip};
+ghost use Rattle.protocol.specs.Format.{records_limit, workers_limit, is_skip};
 ghost use Rattle.protocol.specs.Refusals.{check_skips};
 
 use crate::answer::{Refusal, Refused};
@@ -30,17 +30,15 @@ fn too_far(r: Record, i: usize, firsts: &[usize; WORKERS_LIMIT + 1]) -> bool
 // As a function of its own, and `read_steps` likewise, the check of a small file takes 1,501 instructions in place of 1,467.
 #[inline(always)]
 pub fn check_skips(
-    file: &[u8],
-    count: usize,
+    records: &[[u8; RECORD_LENGTH]],
     firsts: &[usize; WORKERS_LIMIT + 1],
 ) -> Result<(), Refused>
-    requires count_in_bounds { record_length * count ≤ length file.now }
-    requires count_le_records_limit { count ≤ records_limit }
-    requires skip_checking { SkipChecking file.now count firsts.now }
-    ensures { verdict_of result ≡ check_skips 0 (before file.now count) }
+    requires few_records { length records.now ≤ records_limit }
+    requires skip_checking { SkipChecking (file_of records.now) (length records.now) firsts.now }
+    ensures { verdict_of result ≡ check_skips 0 (before (file_of records.now) (length records.now)) }
 {
-    for i in 0..count {
-        if too_far(body(file, RECORD_LENGTH * i), i, firsts) {
+    for (i, record) in records.iter().enumerate() {
+        if too_far(body(record, 0), i, firsts) {
             return Err(Refusal::SkipTooFar.at(i));
         }
     }

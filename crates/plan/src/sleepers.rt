@@ -1,9 +1,9 @@
 // The sleep records.
-ghost use Rattle.std.specs.Prelude.{◌≡◌, ◌*◌, ◌≤◌, length, replicate, MatchResult};
-ghost use Rattle.protocol.specs.Format.{record_length, workers_limit};
+ghost use Rattle.std.specs.Prelude.{◌≡◌, length, replicate, MatchResult};
+ghost use Rattle.protocol.specs.Format.{workers_limit};
 ghost use Rattle.format.specs.Fates.{code_going};
 ghost use Rattle.plan.specs.Answer.{refused_as};
-ghost use Rattle.plan.specs.Reading.{verdict_from};
+ghost use Rattle.plan.specs.Reading.{file_of, verdict_from};
 ghost use Rattle.plan.specs.Sleeping.{refuses_sleep, SleepersComing, SleepersRead};
 
 use crate::answer::{Refusal, Refused};
@@ -22,20 +22,18 @@ fn bad_sleep(low: u8, n: u8, r: Record) -> bool
 // Reads the records from `start` on, behind the barrier records, as long as they are sleep records, and notes who is asleep at first. Answers
 // the index of the first record behind them.
 pub fn read_sleepers(
-    file: &[u8],
-    count: usize,
+    records: &[[u8; RECORD_LENGTH]],
     n: u8,
     start: usize,
     fates: &mut [u64; WORKERS_LIMIT],
 ) -> Result<usize, Refused>
-    requires count_in_bounds { record_length * count ≤ length file.now }
-    requires sleepers_coming { SleepersComing file.now count n start }
+    requires sleepers_coming { SleepersComing (file_of records.now) (length records.now) n start }
     requires fates_value { fates.old ≡ replicate workers_limit code_going }
-    ensures { MatchResult result (λ next. SleepersRead file.now count start next fates.new) (λ e. verdict_from file.now count start ≡ refused_as e) }
+    ensures { MatchResult result (λ next. SleepersRead (file_of records.now) (length records.now) start next fates.new) (λ e. verdict_from (file_of records.now) (length records.now) start ≡ refused_as e) }
 {
     let mut low = 0u8;
-    for i in start..count {
-        let Some(r) = decode(file, RECORD_LENGTH * i) else {
+    for i in start..records.len() {
+        let Some(r) = decode(&records[i]) else {
             return Err(Refusal::BadMark.at(i));
         };
         if r.op != ops::SLEEP_RECORD {
@@ -47,5 +45,5 @@ pub fn read_sleepers(
         fates[r.worker as usize] = ASLEEP;
         low = r.worker + 1;
     }
-    Ok(count)
+    Ok(records.len())
 }

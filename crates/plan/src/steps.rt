@@ -1,8 +1,9 @@
 // The step records, and where each worker's steps begin.
-ghost use Rattle.std.specs.Prelude.{◌≡◌, ℕ, ◌+◌, ◌*◌, ◌≤◌, ◌<◌, length, get_or, Some};
-ghost use Rattle.protocol.specs.Format.{record_length, workers_limit};
+ghost use Rattle.std.specs.Prelude.{◌≡◌, ℕ, ◌+◌, ◌≤◌, ◌<◌, length, get_or, Some};
+ghost use Rattle.protocol.specs.Format.{workers_limit};
 ghost use Rattle.format.specs.Table.{limits_for};
 ghost use Rattle.plan.specs.Answer.{refusal_of, rule_as};
+ghost use Rattle.plan.specs.Reading.{file_of};
 ghost use Rattle.plan.specs.Stepping.{outside_of, refuses_worker, read_steps, no_step, kept_operand_rule, kept_rule, StepsSoFar, StretchRead, StepsRead};
 
 use crate::answer::{Refusal, Refused};
@@ -105,7 +106,7 @@ fn step_rule(
 // Within `read_steps` its loop would keep its numbers in memory: the check of the longest file takes 47,332 instructions in place of 39,799.
 #[inline(never)]
 fn read_stretch(
-    file: &[u8],
+    records: &[[u8; RECORD_LENGTH]],
     from: usize,
     end: usize,
     worker: u8,
@@ -113,11 +114,11 @@ fn read_stretch(
     sizes: &[u8; BARRIER_COUNT],
 ) -> usize
     requires from_le_end { from ≤ end }
-    requires end_in_bounds { record_length * end ≤ length file.now }
-    ensures { StretchRead file.now n sizes.now worker from end result }
+    requires end_in_bounds { end ≤ length records.now }
+    ensures { StretchRead (file_of records.now) n sizes.now worker from end result }
 {
     for i in from..end {
-        let Some(r) = decode(file, RECORD_LENGTH * i) else {
+        let Some(r) = decode(&records[i]) else {
             return i;
         };
         if r.worker != worker {
@@ -136,23 +137,21 @@ fn read_stretch(
 // Reads the records from `start` on, which are the steps, and notes where each worker's begin; from worker n on that is behind the last.
 #[inline(always)]
 pub fn read_steps(
-    file: &[u8],
-    count: usize,
+    records: &[[u8; RECORD_LENGTH]],
     n: u8,
     sizes: &[u8; BARRIER_COUNT],
     start: usize,
     firsts: &mut [usize; WORKERS_LIMIT + 1],
 ) -> Result<(), Refused>
-    requires count_in_bounds { record_length * count ≤ length file.now }
-    requires steps_so_far { StepsSoFar file.now count n sizes.now start }
+    requires steps_so_far { StepsSoFar (file_of records.now) (length records.now) n sizes.now start }
     requires firsts_len { length firsts.old ≡ workers_limit + 1 }
-    ensures { StepsRead file.now count sizes.now start result firsts.new }
+    ensures { StepsRead (file_of records.now) (length records.now) sizes.now start result firsts.new }
 {
     let n = n as usize;
     let mut opened = 0usize;
     let mut i = start;
-    while i < count {
-        let Some(r) = decode(file, RECORD_LENGTH * i) else {
+    while i < records.len() {
+        let Some(r) = decode(&records[i]) else {
             return Err(Refusal::BadMark.at(i));
         };
         let Some(row) = row_of(r.op) else {
@@ -164,9 +163,9 @@ pub fn read_steps(
         let worker = r.worker as usize;
         firsts[opened..=worker].fill(i);
         opened = worker + 1;
-        let end = count.min(firsts[worker] + STEPS_LIMIT);
-        i = read_stretch(file, i + 1, end, r.worker, n, sizes);
+        let end = records.len().min(firsts[worker] + STEPS_LIMIT);
+        i = read_stretch(records, i + 1, end, r.worker, n, sizes);
     }
-    firsts[opened..].fill(count);
+    firsts[opened..].fill(records.len());
     Ok(())
 }

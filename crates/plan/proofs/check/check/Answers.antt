@@ -1,11 +1,11 @@
 -- `plan::check::check` meets its contract: the rules in the paper's order, each part of the file by the function that reads it.
-use Rattle.std.proofs.Common.{refl, Ok, Err, ◌≡◌, ◌/◌, sym, ◌∙◌, length, false}
-use Rattle.protocol.specs.Format.{record_length, record_count}
-use Rattle.protocol.specs.Refusals.{wrong_length}
-use Rattle.protocol.proofs.Accepted.{length-right}
+use Rattle.std.proofs.Common.{refl, Ok, Err, sym, ap, ◌∙◌, length}
+use Rattle.plan.specs.Answer.{decoded_of}
+use Rattle.plan.specs.Reading.{file_of}
 use Rattle.plan.specs.Stepping.{StepsRead}
+use Rattle.plan.proofs.Recorded.{file_of-record}
 use Rattle.plan.proofs.Readings.{unmarked-rule}
-use Rattle.plan.proofs.Checks.{FirstTaken, by_length, by_first, plan-rule, rules-begun, behind-first, behind-barriers, sleepers-coming}
+use Rattle.plan.proofs.Checks.{Cut, FirstTaken, by_length, by_first, plan-rule, rules-begun, behind-first, behind-barriers, sleepers-coming}
 use Rattle.plan.proofs.Checks.{behind-sleepers, steps-so-far, laid_out, turned_down, turned_down_by}
 use Rattle.plan.proofs.check.check.Goals as goal
 
@@ -13,24 +13,23 @@ pub returns-then-bad_length : goal.returns-then-bad_length
 returns-then-bad_length c = rw c.at.ensures (turned_down (by_length _ (sym c.bad_length.ensures ∙ c.if-bad_length.true)))
 
 pub returns-in_default : goal.returns-in_default
-unfolding record_count
 returns-in_default c =
-    let fine : wrong_length (length c.args.file.now) ≡ false = sym c.bad_length.ensures ∙ c.if-bad_length.false in
+    let cut : Cut c.args.file.now c.as_chunks.result.0.now = record { fine = sym c.bad_length.ensures ∙ c.if-bad_length.false; chunks = c.as_chunks.ensures.front; many = c.as_chunks.ensures.front_len } in
     rw c.at-in_default.ensures
-    (turned_down (by_first c.args.file.now fine (length-right c.args.file.now fine).some (unmarked-rule _ _ (sym c.decode.ensures ∙ c.in_default.is))))
+    (turned_down (by_first cut (unmarked-rule _ _ (ap (λ r. decoded_of r) (file_of-record c.as_chunks.result.0.now 0) ∙ sym c.decode.ensures ∙ c.in_default.is))))
 
 pub returns-then-bad_plan : goal.returns-then-bad_plan
-unfolding record_count
 returns-then-bad_plan c =
-    let fine : wrong_length (length c.args.file.now) ≡ false = sym c.bad_length.ensures ∙ c.if-bad_length.false in
+    let cut : Cut c.args.file.now c.as_chunks.result.0.now = record { fine = sym c.bad_length.ensures ∙ c.if-bad_length.false; chunks = c.as_chunks.ensures.front; many = c.as_chunks.ensures.front_len } in
     rw c.at-then-bad_plan.ensures
-    (turned_down (by_first c.args.file.now fine (length-right c.args.file.now fine).some
-    (plan-rule c.args.file.now (sym c.decode.ensures ∙ c.in-Some.is) (sym c.bad_plan.ensures ∙ c.if-bad_plan.true))))
+    (turned_down (by_first cut
+    (plan-rule (file_of c.as_chunks.result.0.now) (ap (λ r. decoded_of r) (file_of-record c.as_chunks.result.0.now 0) ∙ sym c.decode.ensures ∙ c.in-Some.is)
+    (sym c.bad_plan.ensures ∙ c.if-bad_plan.true))))
 
 pub read_barriers-requires-clause-rules_hold : goal.read_barriers-requires-clause-rules_hold
 read_barriers-requires-clause-rules_hold c =
-    let taken : FirstTaken c.args.file.now c.in-Some.first = record {
-      fine = sym c.bad_length.ensures ∙ c.if-bad_length.false;
+    let taken : FirstTaken c.args.file.now c.as_chunks.result.0.now c.in-Some.first = record {
+      cut = record { fine = sym c.bad_length.ensures ∙ c.if-bad_length.false; chunks = c.as_chunks.ensures.front; many = c.as_chunks.ensures.front_len };
       decoded = sym c.decode.ensures ∙ c.in-Some.is;
       right = sym c.bad_plan.ensures ∙ c.if-bad_plan.false;
     } in
@@ -38,8 +37,8 @@ read_barriers-requires-clause-rules_hold c =
 
 pub returns-in_err-barriers : goal.returns-in_err-barriers
 returns-in_err-barriers c =
-    let taken : FirstTaken c.args.file.now c.in-Some.first = record {
-      fine = sym c.bad_length.ensures ∙ c.if-bad_length.false;
+    let taken : FirstTaken c.args.file.now c.as_chunks.result.0.now c.in-Some.first = record {
+      cut = record { fine = sym c.bad_length.ensures ∙ c.if-bad_length.false; chunks = c.as_chunks.ensures.front; many = c.as_chunks.ensures.front_len };
       decoded = sym c.decode.ensures ∙ c.in-Some.is;
       right = sym c.bad_plan.ensures ∙ c.if-bad_plan.false;
     } in
@@ -47,8 +46,8 @@ returns-in_err-barriers c =
 
 pub read_sleepers-requires-clause-sleepers_coming : goal.read_sleepers-requires-clause-sleepers_coming
 read_sleepers-requires-clause-sleepers_coming c =
-    let taken : FirstTaken c.args.file.now c.in-Some.first = record {
-      fine = sym c.bad_length.ensures ∙ c.if-bad_length.false;
+    let taken : FirstTaken c.args.file.now c.as_chunks.result.0.now c.in-Some.first = record {
+      cut = record { fine = sym c.bad_length.ensures ∙ c.if-bad_length.false; chunks = c.as_chunks.ensures.front; many = c.as_chunks.ensures.front_len };
       decoded = sym c.decode.ensures ∙ c.in-Some.is;
       right = sym c.bad_plan.ensures ∙ c.if-bad_plan.false;
     } in
@@ -56,8 +55,8 @@ read_sleepers-requires-clause-sleepers_coming c =
 
 pub returns-in_err-next : goal.returns-in_err-next
 returns-in_err-next c =
-    let taken : FirstTaken c.args.file.now c.in-Some.first = record {
-      fine = sym c.bad_length.ensures ∙ c.if-bad_length.false;
+    let taken : FirstTaken c.args.file.now c.as_chunks.result.0.now c.in-Some.first = record {
+      cut = record { fine = sym c.bad_length.ensures ∙ c.if-bad_length.false; chunks = c.as_chunks.ensures.front; many = c.as_chunks.ensures.front_len };
       decoded = sym c.decode.ensures ∙ c.in-Some.is;
       right = sym c.bad_plan.ensures ∙ c.if-bad_plan.false;
     } in
@@ -65,8 +64,8 @@ returns-in_err-next c =
 
 pub read_steps-requires-clause-steps_so_far : goal.read_steps-requires-clause-steps_so_far
 read_steps-requires-clause-steps_so_far c =
-    let taken : FirstTaken c.args.file.now c.in-Some.first = record {
-      fine = sym c.bad_length.ensures ∙ c.if-bad_length.false;
+    let taken : FirstTaken c.args.file.now c.as_chunks.result.0.now c.in-Some.first = record {
+      cut = record { fine = sym c.bad_length.ensures ∙ c.if-bad_length.false; chunks = c.as_chunks.ensures.front; many = c.as_chunks.ensures.front_len };
       decoded = sym c.decode.ensures ∙ c.in-Some.is;
       right = sym c.bad_plan.ensures ∙ c.if-bad_plan.false;
     } in
@@ -74,35 +73,35 @@ read_steps-requires-clause-steps_so_far c =
 
 pub returns-in_err-read_steps : goal.returns-in_err-read_steps
 returns-in_err-read_steps c =
-    let taken : FirstTaken c.args.file.now c.in-Some.first = record {
-      fine = sym c.bad_length.ensures ∙ c.if-bad_length.false;
+    let taken : FirstTaken c.args.file.now c.as_chunks.result.0.now c.in-Some.first = record {
+      cut = record { fine = sym c.bad_length.ensures ∙ c.if-bad_length.false; chunks = c.as_chunks.ensures.front; many = c.as_chunks.ensures.front_len };
       decoded = sym c.decode.ensures ∙ c.in-Some.is;
       right = sym c.bad_plan.ensures ∙ c.if-bad_plan.false;
     } in
-    let refused : StepsRead c.args.file.now (length c.args.file.now / record_length) c.in_ok-barriers.barriers.sizes c.in_ok-next.next (Err c.in_err-read_steps.field-0.0)
+    let refused : StepsRead (file_of c.as_chunks.result.0.now) (length c.as_chunks.result.0.now) c.in_ok-barriers.barriers.sizes c.in_ok-next.next (Err c.in_err-read_steps.field-0.0)
     c.read_steps.new.firsts = c.in_err-read_steps.ensures in
     turned_down_by _ c.from_residual-in_err-read_steps.ensures.1 (behind-sleepers taken c.in_ok-barriers.ensures c.in_ok-next.ensures ∙ sym refused.verdict)
 
 pub returns-in_err-check_skips : goal.returns-in_err-check_skips
 returns-in_err-check_skips c =
-    let taken : FirstTaken c.args.file.now c.in-Some.first = record {
-      fine = sym c.bad_length.ensures ∙ c.if-bad_length.false;
+    let taken : FirstTaken c.args.file.now c.as_chunks.result.0.now c.in-Some.first = record {
+      cut = record { fine = sym c.bad_length.ensures ∙ c.if-bad_length.false; chunks = c.as_chunks.ensures.front; many = c.as_chunks.ensures.front_len };
       decoded = sym c.decode.ensures ∙ c.in-Some.is;
       right = sym c.bad_plan.ensures ∙ c.if-bad_plan.false;
     } in
-    let steps : StepsRead c.args.file.now (length c.args.file.now / record_length) c.in_ok-barriers.barriers.sizes c.in_ok-next.next (Ok tt) c.read_steps.new.firsts
+    let steps : StepsRead (file_of c.as_chunks.result.0.now) (length c.as_chunks.result.0.now) c.in_ok-barriers.barriers.sizes c.in_ok-next.next (Ok tt) c.read_steps.new.firsts
     = c.in_ok-read_steps.ensures in
     turned_down_by _ c.from_residual-in_err-check_skips.ensures.1
     (behind-sleepers taken c.in_ok-barriers.ensures c.in_ok-next.ensures ∙ (sym steps.verdict ∙ sym c.in_err-check_skips.ensures))
 
 pub returns : goal.returns
 returns c =
-    let taken : FirstTaken c.args.file.now c.in-Some.first = record {
-      fine = sym c.bad_length.ensures ∙ c.if-bad_length.false;
+    let taken : FirstTaken c.args.file.now c.as_chunks.result.0.now c.in-Some.first = record {
+      cut = record { fine = sym c.bad_length.ensures ∙ c.if-bad_length.false; chunks = c.as_chunks.ensures.front; many = c.as_chunks.ensures.front_len };
       decoded = sym c.decode.ensures ∙ c.in-Some.is;
       right = sym c.bad_plan.ensures ∙ c.if-bad_plan.false;
     } in
-    let steps : StepsRead c.args.file.now (length c.args.file.now / record_length) c.in_ok-barriers.barriers.sizes c.in_ok-next.next (Ok tt) c.read_steps.new.firsts
+    let steps : StepsRead (file_of c.as_chunks.result.0.now) (length c.as_chunks.result.0.now) c.in_ok-barriers.barriers.sizes c.in_ok-next.next (Ok tt) c.read_steps.new.firsts
     = c.in_ok-read_steps.ensures in
     record {
       verdict = sym (behind-sleepers taken c.in_ok-barriers.ensures c.in_ok-next.ensures ∙ (sym steps.verdict ∙ sym c.in_ok-check_skips.ensures));
