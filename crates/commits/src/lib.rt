@@ -9,7 +9,7 @@ ghost use Rattle.protocol.specs.Format.{workers_limit};
 ghost use Rattle.protocol.specs.Pages.{page_size, page_count, no_copies, commit};
 ghost use Rattle.protocol.specs.Sum.{sum_of};
 ghost use Rattle.pages.specs.Copies.{Lent, slot_count, slot_copy, copies_in};
-ghost use Rattle.commits.specs.Blocks.{block_size, any_differs, BytesWritten, BlockLent, BlockMoved, Summed};
+ghost use Rattle.commits.specs.Blocks.{block_size, BlockWritten, BlockMoved, BlockCounted, Summed};
 ghost use Rattle.commits.specs.Committing.{half_count, any_copied, PagesDone, Committed};
 
 use crate::sum::{Block, block_sum};
@@ -17,42 +17,32 @@ use pages::{Page, SLOTS, discard};
 
 const HALF_COUNT: usize = Page::COUNT / 2;
 
-// Whether a byte of a block of a working copy differs from its twin. The blocks are compared as arrays, whose length the compiler knows.
-fn differs(work: &[u8], at: usize) -> bool
-    requires { at + page_size + block_size ≤ length work.now }
-    ensures { result ≡ any_differs work.now at block_size }
-{
-    let twin = at + Page::SIZE;
-    let mine = work[at..at + Block::SIZE].first_chunk::<{ Block::SIZE }>();
-    mine != work[twin..twin + Block::SIZE].first_chunk()
-}
-
 // Writes the bytes of a block that differ from their twins. Each byte is written, changed or not, so that the loop becomes vector code.
-fn write_block(memory: &mut [u8], work: &[u8], first: usize, at: usize)
-    requires { BlockLent first at work.now memory.old }
-    ensures { BytesWritten first at block_size work.now memory.old memory.new
-        × BlockMoved first memory.old memory.new }
+fn write_block(shared: &mut [u8], mine: &[u8; Block::SIZE], twin: &[u8; Block::SIZE])
+    requires { length shared.old ≡ block_size }
+    ensures { BlockWritten mine.now twin.now shared.old shared.new }
 {
-    for i in 0..Block::SIZE {
-        let b = work[at + i];
-        let t = work[at + Page::SIZE + i];
-        let m = memory[first + i];
-        memory[first + i] = if b != t { b } else { m };
+    for (i, byte) in shared.iter_mut().enumerate() {
+        *byte = if mine[i] != twin[i] { mine[i] } else { *byte };
     }
 }
 
-// Commits a block. The sum rises by the block's words as they stand in shared memory now, and falls by those that stood there before.
-// Memory and sum are no struct with a ghost field that says they agree: it would have to hold between the write and the new sum.
-fn commit_block(memory: &mut [u8], work: &[u8], first: usize, at: usize, sum: u32) -> u32
-    requires { BlockLent first at work.now memory.old × Summed memory.old sum }
-    ensures { BytesWritten first at block_size work.now memory.old memory.new × Summed memory.new result }
+// Commits a block of shared memory. The sum rises by the block's words as they stand there now, and falls by those that stood there before.
+fn commit_block(
+    shared: &mut [u8],
+    mine: &[u8; Block::SIZE],
+    twin: &[u8; Block::SIZE],
+    sum: u32,
+) -> u32
+    requires { BlockCounted shared.old sum }
+    ensures { BlockWritten mine.now twin.now shared.old shared.new × BlockMoved shared.old shared.new sum result }
 {
-    if !differs(work, at) {
+    if mine == twin {
         return sum;
     }
-    let before = block_sum(memory, first);
-    write_block(memory, work, first, at);
-    let after = block_sum(memory, first);
+    let before = block_sum(shared);
+    write_block(shared, mine, twin);
+    let after = block_sum(shared);
     sum + after - before
 }
 
@@ -74,12 +64,18 @@ fn commit_page(
     }
     let first = Page::SIZE * p;
     let at = Page::PAIR * slot;
+    let (copy, twin) = work[at..at + Page::PAIR].split_at(Page::SIZE);
+    let (copies, _) = copy.as_chunks::<{ Block::SIZE }>();
+    let (twins, _) = twin.as_chunks::<{ Block::SIZE }>();
     let mut total = sum;
-    // counted by bytes: with `for` over the blocks "commits of eight pages" take 1.6 % more instructions
-    let mut k = 0;
-    while k < Page::SIZE {
-        total = commit_block(memory, work, first + k, at + k, total);
-        k += Block::SIZE;
+    for (k, mine) in copies.iter().enumerate() {
+        let from = first + Block::SIZE * k;
+        total = commit_block(
+            &mut memory[from..from + Block::SIZE],
+            mine,
+            &twins[k],
+            total,
+        );
     }
     total
 }

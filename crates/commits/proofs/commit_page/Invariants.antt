@@ -1,4 +1,4 @@
-use Prim.Native.Nat.{◌-◌, ◌*◌, ◌%◌, ◌≤◌}
+use Prim.Native.Nat.{◌*◌}
 use mathlib.Core.Path.{◌≡◌}
 use lib.ListN.{length}
 use Rattle.protocol.specs.Pages.{page_size}
@@ -7,11 +7,8 @@ use Rattle.commits.specs.Blocks.{block_size, BytesWritten, Summed}
 use Rattle.commits.proofs.commit_page.Given as goal
 
 abbrev pub invariant-loop-k : goal.invariant-loop-k
-invariant-loop-k l = (l.k ≤ page_size)
-    × (l.k % block_size ≡ 0)
-    × (length l.memory ≡ length l.initial.memory)
-    × Summed l.memory l.total
-    × BytesWritten (page_size * l.p) (copy_at l.slot) l.k l.work l.initial.memory l.memory
-
-abbrev pub decreases-loop-k : goal.decreases-loop-k
-decreases-loop-k l = page_size - l.k
+invariant-loop-k l = record {
+  size : length l.memory ≡ length l.initial.memory;
+  summed : Summed l.memory l.total;
+  written : BytesWritten (page_size * l.p) (copy_at l.slot) (block_size * l.k) l.work l.initial.memory l.memory;
+}

@@ -6,5 +6,5 @@ use Rattle.commits.proofs.sum.block_sum.Given as goal
 abbrev pub invariant-loop-word : goal.invariant-loop-word
 invariant-loop-word l = record {
   most : l.sum ≤ 65535 * l.word-index;
-  words : l.sum ≡ words_from l.memory l.at l.word-index;
+  words : l.sum ≡ words_from l.block 0 l.word-index;
 }
