@@ -6,7 +6,7 @@ pub mod sum;
 
 ghost use Rattle.std.specs.Prelude.{◌≡◌, ◌+◌, ◌<◌, ◌≤◌, length, set};
 ghost use Rattle.protocol.specs.Format.{workers_limit};
-ghost use Rattle.protocol.specs.Pages.{page_size, page_count, no_copies, commit};
+ghost use Rattle.protocol.specs.Pages.{page_count, no_copies, commit};
 ghost use Rattle.protocol.specs.Sum.{sum_of};
 ghost use Rattle.pages.specs.Copies.{Lent, slot_count, slot_copy, copies_in};
 ghost use Rattle.commits.specs.Blocks.{block_size, BlockWritten, BlockMoved, BlockCounted, Summed};

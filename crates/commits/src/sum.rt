@@ -1,5 +1,5 @@
 // The sum of shared memory's words at even addresses.
-ghost use Rattle.std.specs.Prelude.{◌≡◌, ◌+◌, ◌≤◌, length};
+ghost use Rattle.std.specs.Prelude.{◌≡◌, length};
 ghost use Rattle.protocol.specs.Calls.{memory_length};
 ghost use Rattle.protocol.specs.Sum.{sum_of};
 ghost use Rattle.commits.specs.Blocks.{block_size, BlockSummed};
