@@ -13,7 +13,8 @@ loop-i-init c = (omega arith, c.requires.some_records, barriers-first (file_of c
 pub returns-in_default : goal.returns-in_default
 returns-in_default c =
     rw c.at.ensures
-    (sym c.loop-i.invariant.3 ∙ verdict-step _ _ _ c.loop-i-test.true (unmarked-rule _ _ (ap (λ q. decoded_of q) (file_of-record c.args.records.now c.loop-i.i) ∙ sym c.decode.ensures ∙ c.in_default.is)))
+    (sym c.loop-i.invariant.3 ∙ verdict-step _ _ _ c.loop-i-test.true (unmarked-rule _ _
+    (ap (λ q. decoded_of q) (file_of-record c.args.records.now c.loop-i.i) ∙ sym c.decode.ensures ∙ c.in_default.is)))
 
 pub returns-then-r-ne-BARRIER_RECORD : goal.returns-then-r-ne-BARRIER_RECORD
 returns-then-r-ne-BARRIER_RECORD c =

@@ -14,13 +14,15 @@ returns-then-bad_length c = rw c.at.ensures (turned_down (by_length _ (sym c.bad
 
 pub returns-in_default : goal.returns-in_default
 returns-in_default c =
-    let cut : Cut c.args.file.now c.as_chunks.result.0.now = record { fine = sym c.bad_length.ensures ∙ c.if-bad_length.false; chunks = c.as_chunks.ensures.front; many = c.as_chunks.ensures.front_len } in
+    let cut : Cut c.args.file.now c.as_chunks.result.0.now =
+    record { fine = sym c.bad_length.ensures ∙ c.if-bad_length.false; chunks = c.as_chunks.ensures.front; many = c.as_chunks.ensures.front_len } in
     rw c.at-in_default.ensures
     (turned_down (by_first cut (unmarked-rule _ _ (ap (λ r. decoded_of r) (file_of-record c.as_chunks.result.0.now 0) ∙ sym c.decode.ensures ∙ c.in_default.is))))
 
 pub returns-then-bad_plan : goal.returns-then-bad_plan
 returns-then-bad_plan c =
-    let cut : Cut c.args.file.now c.as_chunks.result.0.now = record { fine = sym c.bad_length.ensures ∙ c.if-bad_length.false; chunks = c.as_chunks.ensures.front; many = c.as_chunks.ensures.front_len } in
+    let cut : Cut c.args.file.now c.as_chunks.result.0.now =
+    record { fine = sym c.bad_length.ensures ∙ c.if-bad_length.false; chunks = c.as_chunks.ensures.front; many = c.as_chunks.ensures.front_len } in
     rw c.at-then-bad_plan.ensures
     (turned_down (by_first cut
     (plan-rule (file_of c.as_chunks.result.0.now) (ap (λ r. decoded_of r) (file_of-record c.as_chunks.result.0.now 0) ∙ sym c.decode.ensures ∙ c.in-Some.is)

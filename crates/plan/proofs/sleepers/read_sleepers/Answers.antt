@@ -11,14 +11,16 @@ use Rattle.plan.proofs.sleepers.read_sleepers.Goals as goal
 
 pub loop-i-init : goal.loop-i-init
 loop-i-init c = (
-  subst⁻¹ (λ (fates : List ℕ). SleepersAt (file_of c.args.records.now) (length c.args.records.now) c.args.n c.args.start c.args.start 0 fates) c.requires.fates_value (sleepers-first c.requires.sleepers_coming),
+  subst⁻¹ (λ (fates : List ℕ). SleepersAt (file_of c.args.records.now) (length c.args.records.now) c.args.n c.args.start c.args.start 0 fates) c.requires.fates_value
+      (sleepers-first c.requires.sleepers_coming),
   refl,
 )
 
 pub returns-in_default : goal.returns-in_default
 returns-in_default c =
     rw c.at.ensures
-    (sym c.loop-i.invariant.1 ∙ verdict-step _ _ _ c.loop-i-test.true (unmarked-rule _ _ (ap (λ q. decoded_of q) (file_of-record c.args.records.now c.loop-i.i) ∙ sym c.decode.ensures ∙ c.in_default.is)))
+    (sym c.loop-i.invariant.1 ∙ verdict-step _ _ _ c.loop-i-test.true (unmarked-rule _ _
+    (ap (λ q. decoded_of q) (file_of-record c.args.records.now c.loop-i.i) ∙ sym c.decode.ensures ∙ c.in_default.is)))
 
 pub returns-then-r-ne-SLEEP_RECORD : goal.returns-then-r-ne-SLEEP_RECORD
 returns-then-r-ne-SLEEP_RECORD c =

@@ -79,7 +79,8 @@ returns c =
     let inv = c.loop-i.invariant in
     let a = c.args in
     let all : c.loop-i.i ≡ (length a.records.now) = omega (arith, inv.0, c.loop-i-test.false) in
-    let opened = filled c.loop-i.firsts _ c.loop-i.opened 9 (length a.records.now) (omega (arith, inv.1, c.requires.steps_so_far.few)) (omega (arith, inv.3.size)) (c.fill-2.ensures.after (λ y e. e)) in
+    let opened = filled c.loop-i.firsts _ c.loop-i.opened 9 (length a.records.now)
+    (omega (arith, inv.1, c.requires.steps_so_far.few)) (omega (arith, inv.3.size)) (c.fill-2.ensures.after (λ y e. e)) in
     record {
       verdict = sym (read_through (file_of a.records.now) (length a.records.now)) ∙ (ap (λ (j : ℕ). verdict_from (file_of a.records.now) (length a.records.now) j) (sym all) ∙ inv.4);
       size = opened.size ∙ inv.3.size;
