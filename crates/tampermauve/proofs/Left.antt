@@ -21,7 +21,6 @@ use Rattle.protocol.proofs.Bounds.{Bounded, bounded}
 use Rattle.protocol.proofs.Obeys.{play-inv}
 use Rattle.protocol.proofs.Sums.{sum-small, sum-shown}
 use Rattle.protocol.proofs.Sizes.{length-log}
-use Rattle.queue.specs.List.{list_of}
 use Rattle.journal.specs.Bytes.{report_of}
 use Rattle.engine.specs.Turning.{Over}
 use Rattle.engine.specs.declared.state.Played.{Played}
@@ -58,7 +57,7 @@ module _ (file turns start-memory : List ℕ) (ok : check file ≡ accepted) (p 
         size = size;
       }
 
-  module _ {log' report' : List ℕ} (left : Closed (list_of p.schedule.lists.list) p.schedule.counts p.fates n p.schedule.sum log log' report') where
+  module _ {log' report' : List ℕ} (left : Closed p.schedule.lists.list p.schedule.counts p.fates n p.schedule.sum log log' report') where
     pub log-same : log' ≡ lent_log (played_from (plan_of file) start-memory turns)
     unfolding lent_log
     log-same =
@@ -72,7 +71,7 @@ module _ (file turns start-memory : List ℕ) (ok : check file ≡ accepted) (p 
     pub report-left : report' ≡ report_bytes (played_from (plan_of file) start-memory turns)
     report-left =
         left.reported
-        ∙ (ap (λ (ws : List ℕ). said ws p.schedule.counts.moves p.schedule.counts.rounds p.schedule.counts.records p.schedule.sum) o.refines.lists.list.list
+        ∙ (ap (λ (ws : List ℕ). said ws p.schedule.counts.moves p.schedule.counts.rounds p.schedule.counts.records p.schedule.sum) o.refines.lists.list
         ∙ (ap (λ (k : ℕ). said state.list k p.schedule.counts.rounds p.schedule.counts.records p.schedule.sum) (sym o.refines.moves)
         ∙ (ap (λ (k : ℕ). said state.list state.moves k p.schedule.counts.records p.schedule.sum) (sym o.refines.rounds)
         ∙ (ap (λ (k : ℕ). said state.list state.moves state.rounds k p.schedule.sum) (sym o.refines.log.count)
