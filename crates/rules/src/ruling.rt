@@ -87,6 +87,7 @@ fn failed(held: u64) -> Ruling
     }
 }
 
+// With count 0 give up the token, else run on; and commit, else keep the copies. Two functions, as the definitions have two (Rounds.antt).
 #[tactic(auto, using(crate::proofs::Rulings::held_some))]
 fn gives_at_zero(held: u64) -> Goes
     ensures { AtZero held result }
