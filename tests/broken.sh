@@ -162,6 +162,8 @@ promises() {
     changed "an edit that is not there" $page 's/`words\/clear-one-byte`/`words\/clear-two-bytes`/' '`words/clear-two-bytes` names nothing' make test-promises
     changed "a definition renamed" crates/protocol/specs/Refusals.antt 's/number_of/numbers_of/' \
         '`number_of` names nothing' make test-promises
+    changed "a method renamed" crates/writer/src/lib.rt 's/pub fn append(/pub fn add(/' '`writer::LogWriter::append` names nothing' make test-promises
+    changed "a static renamed" crates/format/src/table.rt 's/^static ROWS:/static LINES:/' '`ROWS` names nothing' make test-promises
     changed "a test renamed" tests/check.c 's/\blengths(/all_lengths(/' '`lengths` names nothing' make test-promises
     without "an edit, lost" $edits/clear-one-byte.edit '`words/clear-one-byte` names nothing' make test-promises
     without "the edits of a crate, lost" $edits '`words/high-byte-first` names nothing' make test-promises
@@ -191,7 +193,7 @@ conventions() {
         'crates/protocol/specs/Report.antt:2: ◌+◌' make test-conventions
     changed "a further name that is not used" crates/engine/specs/Moving.antt '2i use Rattle.protocol.specs.Rounds.{Entry as Line}' \
         'crates/engine/specs/Moving.antt:2: Line' make test-conventions
-    changed "an import of the code that is not used" crates/engine/src/own.rt 's/^use format::ops;/&\nuse format::fates::GOING;/' \
+    changed "an import of the code that is not used" crates/engine/src/own.rt 's/^use format::points::synchronises;/use format::fates::GOING;\n&/' \
         'own.rt:8: GOING' make test-conventions
     changed "an import in a list of the code that is not used" crates/engine/src/own.rt 's/^use moves::{fetch/use moves::{Fetched, fetch/' \
         'own.rt:9: Fetched' make test-conventions
@@ -204,21 +206,24 @@ conventions() {
         's/ensures { result ≡ wrong_length bytes }/ensures { result ≡ { wrong_length bytes }/' \
         'check.rt: a contract that does not end' make test-conventions
     changed "a name for two things" crates/decisions/specs/Fates.antt '$a abbrev pub kept : ℕ\nkept = 0' 'stands for two things: kept' make test-conventions
-    changed "a type of another's name" crates/decisions/specs/Fates.antt 's/record Freeing/record Syncing/' 'is two types: Syncing' make test-conventions
+    changed "a type of another's name" crates/decisions/specs/Fates.antt 's/record FatesSettled/record Syncing/' 'is two types: Syncing' make test-conventions
     changed "a type of the code with a definition's name" crates/token/src/lib.rt 's/^pub struct Round /pub struct State /' 'another one in specs or proofs: State' make test-conventions
     changed "two types of the code with one name" crates/token/src/lib.rt 's/^pub struct Round /pub struct Moved /' 'is two types of the code: Moved' make test-conventions
     changed "a number without a name" crates/plan/src/check.rt 's/FILE_LIMIT < bytes/7280 < bytes/' 'a number without a name' make test-conventions
-    changed "a number behind a contract of many lines" crates/engine/src/sync.rt 's/moves: counts.moves + 1,/moves: counts.moves + 3,/' \
-        'a number without a name: crates/engine/src/sync.rt:' make test-conventions
+    changed "a number behind a contract of many lines" crates/engine/src/hold.rt 's/let round = (rounds + 1) as u16;/let round = (rounds + 3) as u16;/' \
+        'a number without a name: crates/engine/src/hold.rt:' make test-conventions
     changed "a number behind a contract on its last line" crates/plan/src/check.rt 's/ensures { result ≡ wrong_length bytes }/& { 7280 }/' \
         'a number without a name: crates/plan/src/check.rt:' make test-conventions
-    changed "a number in an impl" crates/queue/src/lib.rt 's/self.matching(entries, entry, true)/self.matching(entries, 5, true)/' \
+    changed "a number in an impl" crates/queue/src/lib.rt 's/entries\[w as usize\] == entry)/entries[w as usize] == 5)/' \
         'a number without a name: crates/queue/src/lib.rt:' make test-conventions
-    changed "a number at a range's end" crates/plan/src/check.rt 's/    FILE_LIMIT < bytes/    for i in 0..7 {}\n&/' \
-        'check.rt:42: 7' make test-conventions
+    changed "a number at a range's end" crates/plan/src/check.rt 's/^    bytes == 0 ||/    for i in 0..7 {}\n&/' \
+        'check.rt:30: 7' make test-conventions
     changed "a library that takes hold of the system" crates/words/src/lib.rt '$a fn print(rt: HostRuntime) {}' \
         'a library names the system itself: crates/words/src/lib.rt:' make test-conventions
-    changed "an op without its name" crates/worker/src/lib.rt 's/if op == ops::LOAD/if op == 2/' 'an op, a fate or an outcome without its name' make test-conventions
+    changed "an op without its name" crates/worker/src/lib.rt 's/op == ops::SKIP_ZERO/op == 2/' 'an op, a fate or an outcome without its name' make test-conventions
+    changed "an op without its name, as a case" crates/plan/src/steps.rt 's/ops::SLEEP_RECORD => /2 => /' 'an op, a fate or an outcome without its name' make test-conventions
+    changed "a fate without its name" crates/decisions/src/fates.rt 's/^        fates\[w as usize\] = GOING/        fates[w as usize] = 0/' \
+        'an op, a fate or an outcome without its name' make test-conventions
     changed "an op that the header numbers otherwise" include/tampermauve.h 's/OP_WAIT 34u/OP_WAIT 43u/' "not the header's" make test-conventions
     changed "an op without a text" command/records.c '/TAMPERMAUVE_OP_EXIT, "exit"/d' 'has no text in command/records.c, or the other way round: OP_EXIT' make test-conventions
     changed "an op that the definitions number otherwise" crates/protocol/specs/Ops.antt 's/op_wait = 34/op_wait = 43/' "not the definitions'" make test-conventions

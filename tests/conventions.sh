@@ -4,7 +4,8 @@
 #     (Rattle.std.proofs is the kit's library, words and lemmas alike); nothing is imported that is not used;
 #   - no library names the system's runtime: what it prints or reads by, a program hands to it;
 #   - no name stands for two things: a definition in the specs, a type in specs and proofs, a type of the code but for those that are its form of a definition's;
-#   - no number from 3 up stands in the code outside of a constant, a contract or the one enum that numbers the refusals, but for those of `meant` below, each with its reason; ops, fates and outcomes that are 0, 1 or 2 have their names too;
+#   - no number from 3 up stands in the code outside of a constant, a contract or the one enum that numbers the refusals, but for those of `meant`
+#     below, each with its reason; ops, fates and outcomes that are 0, 1 or 2 have their names too, as cases of a match as well;
 #   - whether a step synchronises is decided in one place, crates/format/src/points.rt, which has a case for each op of the table, in its order;
 #   - an op has one number and one word in the code, the definitions and the header, and so have the limits of the format; each op of the header has its text;
 #   - no line is longer than 200 characters.
@@ -144,7 +145,6 @@ queue 16 the base of a queue's digits
 worker 16 the bits of a register
 words 3 the place of the last of four bytes
 text 10 decimal digits
-text 48 the digit 0 in ASCII
 END
 }
 
@@ -181,7 +181,7 @@ complain "a number without a name" < <(
             }
         }' <<< "$code")
 complain "an op, a fate or an outcome without its name" < <(
-    grep <<< "$code" -E '\bop (==|!=|<|<=|>|>=) [0-9]|[0-9] (==|!=|<|<=|>|>=) (r\.)?op\b|\bop: [0-9]|Leaves\([0-9]|outcome: [0-9]|fates\[[a-z]+\] = [0-9]')
+    grep <<< "$code" -E '\bop (==|!=|<|<=|>|>=) [0-9]|[0-9] (==|!=|<|<=|>|>=) (r\.)?op\b|\bop: [0-9]|outcome: [0-9]|fates\[[^]]*\] (=|==|!=) [0-9]|^[^:]*:[0-9]+: *([0-9]+ \| )*[0-9]+ (if .*)?=>')
 
 # ---- one word and one number for each op, and for each limit of the format: in the code, the header and the definitions
 

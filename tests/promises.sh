@@ -40,8 +40,9 @@ declared_by() { # CRATE
         function declare(name) { put(crate "::" name); put(crate "::" file "::" name); put(name) }
         FNR == 1 { file = FILENAME; gsub(/.*\/|\.rt$/, "", file) }
         /^}/ { type = struct = "" }
-        /^impl / { type = $2 }
-        match($0, /(fn|const|struct|enum) [A-Za-z_0-9]+/) {
+        # impl TYPE or impl TRAIT for TYPE, with what stands in < > left out
+        /^impl[ <]/ { type = $0; sub(/ *\{$/, "", type); gsub(/<[^<>]*>/, "", type); sub(/.* /, "", type) }
+        match($0, /(fn|const|static|struct|enum) [A-Za-z_0-9]+/) {
             name = substr($0, RSTART, RLENGTH)
             if (name ~ /^struct/ && /\{$/) struct = substr(name, 8)
             sub(/.* /, "", name)
