@@ -9,9 +9,10 @@ use crate::state::{Engine, Played, Schedule};
 use commits::sum::whole_sum;
 use decisions::lists::Lists;
 use format::fates::GOING;
-use format::limits::{BARRIER_COUNT, WORKERS_LIMIT};
+use format::limits::WORKERS_LIMIT;
 use journal::report::Counts;
 use pages::SLOTS;
+use plan::check::Layout;
 use queue::Queue;
 use token::raise;
 use worker::registers::Registers;
@@ -43,41 +44,38 @@ impl Engine {
     }
 }
 
-// Plays the turns from the start of round 1, at which the fates have these codes. A turn by a worker that cannot move passes.
+// Plays the turns from the start of round 1, at which the fates have the layout's codes. A turn by a worker that cannot move passes.
 // A run to the end plays turns of its own choice, as long as a worker can move.
 pub fn play(
     file: &[u8],
-    n: u8,
-    sizes: &[u8; BARRIER_COUNT],
-    firsts: &[usize; WORKERS_LIMIT + 1],
-    first: [u64; WORKERS_LIMIT],
+    layout: &Layout,
     turns: &[u8],
     whole: bool,
     memory: &mut [u8],
     log: &mut [u8],
     work: &mut [u8],
 ) -> Played
-    requires { Playing file.now n sizes.now firsts.now first turns.now whole memory.old log.old work.old }
+    requires { Playing file.now layout.now.workers layout.now.sizes layout.now.firsts layout.now.fates turns.now whole memory.old log.old work.old }
     ensures { PlayedOut file.now turns.now whole memory.old result memory.new log.new work.new }
 {
     let mut engine = Engine {
         places: [0; WORKERS_LIMIT],
         held: [0; WORKERS_LIMIT],
         registers: [Registers::zero(); WORKERS_LIMIT],
-        fates: first,
+        fates: layout.fates,
         can: [false; WORKERS_LIMIT],
         copied: [false; SLOTS],
     };
-    let mut t = engine.first_round(n as u64, memory);
+    let mut t = engine.first_round(layout.workers as u64, memory);
     let mut i = 0;
     while i < turns.len() {
-        let own = engine.own(file, firsts, turns, i, t.counts.moves, memory, work);
+        let own = engine.own(file, &layout.firsts, turns, i, t.counts.moves, memory, work);
         i = own.turn;
         t.counts.moves = own.moves;
         match own.step {
             Some(r) => {
                 let w = turns[i] as usize;
-                t = engine.sync(r, w, t, sizes, memory, log, work);
+                t = engine.sync(r, w, t, &layout.sizes, memory, log, work);
                 // After the end every turn passes.
                 let lists = t.lists;
                 if lists.list.is_empty() {

@@ -19,20 +19,16 @@ pub fn perform(
     requires { Performing file.now layout.now turns.now whole memory.old log.old report.old work.old }
     ensures { Performed file.now turns.now whole memory.old memory.new log.new report.new }
 {
-    let workers = layout.workers;
-    let played = play(
-        file,
-        workers,
-        &layout.sizes,
-        &layout.firsts,
-        layout.fates,
-        turns,
-        whole,
-        memory,
-        log,
-        work,
-    );
+    let played = play(file, layout, turns, whole, memory, log, work);
     let t = played.schedule;
     let ended = t.lists.list.is_empty();
-    close_buffers(ended, t.counts, &played.fates, workers, t.sum, log, report);
+    close_buffers(
+        ended,
+        t.counts,
+        &played.fates,
+        layout.workers,
+        t.sum,
+        log,
+        report,
+    );
 }
