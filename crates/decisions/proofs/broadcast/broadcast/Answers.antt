@@ -30,8 +30,8 @@ returns c = λ locks z.
     elim c.if-held-eq0.branch [
       | then-held-eq0 w ↦
           rw (w.after-is, w.push.ensures, c.append-behind.ensures, c.rest.ensures, c.count-outcome.ensures.value)
-          (gives_up c.args.condition c.requires roused w.if-held-eq0.true locks z)
+          (gives_up c.args.condition c.requires roused (omega (arith, w.if-held-eq0.true)) locks z)
       | else-held-eq0 w ↦
           rw (w.after-is, w.cons.ensures, c.append-behind.ensures, c.rest.ensures, c.count-outcome.ensures.value)
-          (runs_on_with_locks c.args.condition c.requires roused w.if-held-eq0.false locks z)
+          (runs_on_with_locks c.args.condition c.requires roused (λ e. omega (arith, e, w.if-held-eq0.false)) locks z)
     ]

@@ -1,5 +1,5 @@
 -- `decide` meets its contract: what the ruling promises is what the moves between the lists and the fates ask.
-use Rattle.std.proofs.Common.{refl}
+use Rattle.std.proofs.Common.{refl, arith}
 use Rattle.protocol.specs.Rounds.{broadcast_rule}
 use Rattle.rules.specs.Codes.{condition_code}
 use Rattle.rules.specs.Rules.{found, ruling_of}
@@ -11,7 +11,7 @@ returns-then-op-eq-BROADCAST c = λ locks z.
     let a = c.args in
     record {
       is = broadcast_rule (found a.fates.now a.lists.waiting (condition_code a.number)) locks;
-      ruled = by-broadcast c.if-op-eq-BROADCAST.true a.number locks a.sizes.now a.lists.waiting a.fates.now;
+      ruled = by-broadcast (omega (arith, c.if-op-eq-BROADCAST.true)) a.number locks a.sizes.now a.lists.waiting a.fates.now;
       carried = c.broadcast.ensures locks z;
     }
 
