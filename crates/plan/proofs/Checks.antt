@@ -19,7 +19,7 @@ use Rattle.plan.specs.declared.barriers.Barriers.{Barriers}
 use Rattle.plan.specs.declared.answer.Refused.{Refused}
 use Rattle.std.specs.Prelude.{Some, Result, Err, IsErrAnd}
 use Rattle.plan.specs.declared.check.Layout.{Layout}
-use Rattle.plan.proofs.Recorded.{file_of-record, file_of-chunks}
+use Rattle.plan.proofs.Recorded.{decoded-at, file_of-chunks}
 use Rattle.plan.proofs.Readings.{Body, verdict-step, workers-same, told, rules-first}
 use Rattle.protocol.proofs.Accepted.{length-right}
 use Rattle.protocol.proofs.Taken.{plan-record}
@@ -77,7 +77,7 @@ module _ {file : List ℕ} {rs : List (List ℕ)} {first : Body} (taken : FirstT
   some = some_records taken.cut
 
   decoded : decoded_of (file_record (file_of rs) 0) ≡ Some first
-  decoded = ap (λ r. decoded_of r) (file_of-record rs 0) ∙ taken.decoded
+  decoded = decoded-at rs 0 taken.decoded
 
   rule : record_rule [] (file_record (file_of rs) 0) ≡ holds
   rule = plan-rule (file_of rs) decoded taken.right

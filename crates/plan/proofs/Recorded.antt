@@ -7,8 +7,11 @@ use native.Mathlib.Nat.{add-zero}
 use lib.ListN.{length, get_or, drop}
 use lib.Seq.{drop-nil}
 use Rattle.std.proofs.lemmas.List.{get_or-drop}
+use Rattle.std.specs.Prelude.{Option}
 use Rattle.std.specs.Simd.{first_chunks}
 use Rattle.protocol.specs.Format.{record_length, record_from}
+use Rattle.plan.specs.Answer.{decoded_of}
+use Rattle.plan.specs.declared.decode.Record as decode
 use Rattle.plan.specs.Reading.{file_of, file_record}
 
 from-drop : (l : List ℕ) (at : ℕ) → record_from l at ≡ record_from (drop at l) 0
@@ -29,10 +32,8 @@ drop-seven (r ∷ rs) (suc i) = ap (λ (n : ℕ). record_from (drop n (file_of (
 pub file_of-record : (rs : List (List ℕ)) (i : ℕ) → file_record (file_of rs) i ≡ record_from (get_or rs i []) 0
 file_of-record rs i = from-drop (file_of rs) (record_length * i) ∙ drop-seven rs i
 
-pub length-file_of : (rs : List (List ℕ)) → length (file_of rs) ≡ record_length * length rs
-unfolding file_of
-length-file_of [] = refl
-length-file_of (r ∷ rs) = ap (λ (n : ℕ). suc (suc (suc (suc (suc (suc (suc n))))))) (length-file_of rs) ∙ omega arith
+pub decoded-at : (rs : List (List ℕ)) (i : ℕ) {o : Option decode.Record} → decoded_of (record_from (get_or rs i []) 0) ≡ o → decoded_of (file_record (file_of rs) i) ≡ o
+decoded-at rs i e = ap (λ r. decoded_of r) (file_of-record rs i) ∙ e
 
 -- whole chunks of seven make the file again
 pub file_of-chunks : (k : ℕ) (file : List ℕ) → length file ≡ record_length * k → file_of (first_chunks record_length k file) ≡ file

@@ -3,7 +3,7 @@ use Rattle.std.proofs.Common.{arith, ◌≡◌, refl, sym, ap, ◌∙◌, Bool, 
 use Rattle.protocol.specs.Refusals.{bad_barrier, refuse_if, holds}
 use Rattle.plan.specs.Answer.{decoded_of}
 use Rattle.plan.specs.Reading.{file_of, file_record}
-use Rattle.plan.proofs.Recorded.{file_of-record}
+use Rattle.plan.proofs.Recorded.{decoded-at}
 use Rattle.plan.proofs.Readings.{verdict-step, no-barrier-record, unmarked-rule, barrier-rule, barrier-more, barriers-first}
 use Rattle.plan.proofs.barriers.read_barriers.Goals as goal
 
@@ -13,14 +13,13 @@ loop-i-init c = (omega arith, c.requires.some_records, barriers-first (file_of c
 pub returns-in_default : goal.returns-in_default
 returns-in_default c =
     rw c.at.ensures
-    (sym c.loop-i.invariant.3 ∙ verdict-step _ _ _ c.loop-i-test.true (unmarked-rule _ _
-    (ap (λ q. decoded_of q) (file_of-record c.args.records.now c.loop-i.i) ∙ sym c.decode.ensures ∙ c.in_default.is)))
+    (sym c.loop-i.invariant.3 ∙ verdict-step _ _ _ c.loop-i-test.true (unmarked-rule _ _ (decoded-at _ _ (sym c.decode.ensures ∙ c.in_default.is))))
 
 pub returns-then-r-ne-BARRIER_RECORD : goal.returns-then-r-ne-BARRIER_RECORD
 returns-then-r-ne-BARRIER_RECORD c =
     let inv = c.loop-i.invariant in
     let decoded_here : decoded_of (file_record (file_of c.args.records.now) c.loop-i.i) ≡ Some c.in-Some.r =
-    ap (λ q. decoded_of q) (file_of-record c.args.records.now c.loop-i.i) ∙ sym c.decode.ensures ∙ c.in-Some.is in
+    decoded-at _ _ (sym c.decode.ensures ∙ c.in-Some.is) in
     record {
       least = inv.0;
       most = inv.1;
@@ -34,7 +33,7 @@ pub returns-then-bad_barrier : goal.returns-then-bad_barrier
 returns-then-bad_barrier c =
     let inv = c.loop-i.invariant in
     let decoded_here : decoded_of (file_record (file_of c.args.records.now) c.loop-i.i) ≡ Some c.in-Some.r =
-    ap (λ q. decoded_of q) (file_of-record c.args.records.now c.loop-i.i) ∙ sym c.decode.ensures ∙ c.in-Some.is in
+    decoded-at _ _ (sym c.decode.ensures ∙ c.in-Some.is) in
     rw c.at-then-bad_barrier.ensures
     (sym inv.3
     ∙ verdict-step _ _ _ c.loop-i-test.true
@@ -45,7 +44,7 @@ pub loop-i-preserved : goal.loop-i-preserved
 loop-i-preserved c =
     let inv = c.loop-i.invariant in
     let decoded_here : decoded_of (file_record (file_of c.args.records.now) c.loop-i.i) ≡ Some c.in-Some.r =
-    ap (λ q. decoded_of q) (file_of-record c.args.records.now c.loop-i.i) ∙ sym c.decode.ensures ∙ c.in-Some.is in
+    decoded-at _ _ (sym c.decode.ensures ∙ c.in-Some.is) in
     let fine = sym c.bad_barrier.ensures ∙ c.if-bad_barrier.false in (
       omega arith,
       omega (arith, c.loop-i-test.true),

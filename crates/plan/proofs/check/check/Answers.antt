@@ -1,9 +1,8 @@
 -- `plan::check::check` meets its contract: the rules in the paper's order, each part of the file by the function that reads it.
-use Rattle.std.proofs.Common.{refl, Ok, Err, sym, ap, ◌∙◌, length}
-use Rattle.plan.specs.Answer.{decoded_of}
+use Rattle.std.proofs.Common.{refl, Ok, Err, sym, ◌∙◌, length}
 use Rattle.plan.specs.Reading.{file_of}
 use Rattle.plan.specs.Stepping.{StepsRead}
-use Rattle.plan.proofs.Recorded.{file_of-record}
+use Rattle.plan.proofs.Recorded.{decoded-at}
 use Rattle.plan.proofs.Readings.{unmarked-rule}
 use Rattle.plan.proofs.Checks.{Cut, FirstTaken, by_length, by_first, plan-rule, rules-begun, behind-first, behind-barriers, sleepers-coming}
 use Rattle.plan.proofs.Checks.{behind-sleepers, steps-so-far, laid_out, turned_down, turned_down_by}
@@ -17,7 +16,7 @@ returns-in_default c =
     let cut : Cut c.args.file.now c.as_chunks.result.0.now =
     record { fine = sym c.bad_length.ensures ∙ c.if-bad_length.false; chunks = c.as_chunks.ensures.front; many = c.as_chunks.ensures.front_len } in
     rw c.at-in_default.ensures
-    (turned_down (by_first cut (unmarked-rule _ _ (ap (λ r. decoded_of r) (file_of-record c.as_chunks.result.0.now 0) ∙ sym c.decode.ensures ∙ c.in_default.is))))
+    (turned_down (by_first cut (unmarked-rule _ _ (decoded-at _ _ (sym c.decode.ensures ∙ c.in_default.is)))))
 
 pub returns-then-bad_plan : goal.returns-then-bad_plan
 returns-then-bad_plan c =
@@ -25,7 +24,7 @@ returns-then-bad_plan c =
     record { fine = sym c.bad_length.ensures ∙ c.if-bad_length.false; chunks = c.as_chunks.ensures.front; many = c.as_chunks.ensures.front_len } in
     rw c.at-then-bad_plan.ensures
     (turned_down (by_first cut
-    (plan-rule (file_of c.as_chunks.result.0.now) (ap (λ r. decoded_of r) (file_of-record c.as_chunks.result.0.now 0) ∙ sym c.decode.ensures ∙ c.in-Some.is)
+    (plan-rule (file_of c.as_chunks.result.0.now) (decoded-at _ _ (sym c.decode.ensures ∙ c.in-Some.is))
     (sym c.bad_plan.ensures ∙ c.if-bad_plan.true))))
 
 pub read_barriers-requires-clause-rules_hold : goal.read_barriers-requires-clause-rules_hold

@@ -4,7 +4,7 @@ use mathlib.Core.Path.{subst⁻¹}
 use Rattle.protocol.specs.Refusals.{bad_sleep, refuse_if, holds}
 use Rattle.plan.specs.Answer.{decoded_of}
 use Rattle.plan.specs.Reading.{file_of, file_record}
-use Rattle.plan.proofs.Recorded.{file_of-record}
+use Rattle.plan.proofs.Recorded.{decoded-at}
 use Rattle.plan.proofs.Readings.{verdict-step, unmarked-rule}
 use Rattle.plan.proofs.Slept.{SleepersAt, sleepers-first, sleep-rule, sleeper-more, head_read, no-sleep-record}
 use Rattle.plan.proofs.sleepers.read_sleepers.Goals as goal
@@ -19,14 +19,13 @@ loop-i-init c = (
 pub returns-in_default : goal.returns-in_default
 returns-in_default c =
     rw c.at.ensures
-    (sym c.loop-i.invariant.1 ∙ verdict-step _ _ _ c.loop-i-test.true (unmarked-rule _ _
-    (ap (λ q. decoded_of q) (file_of-record c.args.records.now c.loop-i.i) ∙ sym c.decode.ensures ∙ c.in_default.is)))
+    (sym c.loop-i.invariant.1 ∙ verdict-step _ _ _ c.loop-i-test.true (unmarked-rule _ _ (decoded-at _ _ (sym c.decode.ensures ∙ c.in_default.is))))
 
 pub returns-then-r-ne-SLEEP_RECORD : goal.returns-then-r-ne-SLEEP_RECORD
 returns-then-r-ne-SLEEP_RECORD c =
     let inv = c.loop-i.invariant in
     let decoded_here : decoded_of (file_record (file_of c.args.records.now) c.loop-i.i) ≡ Some c.in-Some.r =
-    ap (λ q. decoded_of q) (file_of-record c.args.records.now c.loop-i.i) ∙ sym c.decode.ensures ∙ c.in-Some.is in
+    decoded-at _ _ (sym c.decode.ensures ∙ c.in-Some.is) in
     record {
       least = inv.0.least;
       most = inv.0.most;
@@ -39,7 +38,7 @@ pub returns-then-bad_sleep : goal.returns-then-bad_sleep
 returns-then-bad_sleep c =
     let inv = c.loop-i.invariant in
     let decoded_here : decoded_of (file_record (file_of c.args.records.now) c.loop-i.i) ≡ Some c.in-Some.r =
-    ap (λ q. decoded_of q) (file_of-record c.args.records.now c.loop-i.i) ∙ sym c.decode.ensures ∙ c.in-Some.is in
+    decoded-at _ _ (sym c.decode.ensures ∙ c.in-Some.is) in
     rw c.at-then-bad_sleep.ensures
     (sym inv.1
     ∙ verdict-step _ _ _ c.loop-i-test.true
@@ -50,7 +49,7 @@ pub loop-i-preserved : goal.loop-i-preserved
 loop-i-preserved c =
     let inv = c.loop-i.invariant in
     let decoded_here : decoded_of (file_record (file_of c.args.records.now) c.loop-i.i) ≡ Some c.in-Some.r =
-    ap (λ q. decoded_of q) (file_of-record c.args.records.now c.loop-i.i) ∙ sym c.decode.ensures ∙ c.in-Some.is in
+    decoded-at _ _ (sym c.decode.ensures ∙ c.in-Some.is) in
     let fine = sym c.bad_sleep.ensures ∙ c.if-bad_sleep.false in (
       sleeper-more c.requires.sleepers_coming inv.0 decoded_here c.if-r-ne-SLEEP_RECORD.false fine c.loop-i-test.true,
       sym (verdict-step _ _ _ c.loop-i-test.true

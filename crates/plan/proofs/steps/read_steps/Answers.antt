@@ -1,9 +1,9 @@
 -- `plan::steps::read_steps` meets its contract: what is left of the check is the same at each record, and what is kept is right.
 use Rattle.std.proofs.Common.{arith, option_copied, ◌≡◌, ℕ, ◌+◌, ◌-◌, refl, sym, ap, ◌∙◌, subst, length}
 use Rattle.protocol.specs.Format.{sleepers_in}
-use Rattle.plan.specs.Answer.{decoded_of, rule_as}
+use Rattle.plan.specs.Answer.{rule_as}
 use Rattle.plan.specs.Reading.{file_of, before, verdict_from}
-use Rattle.plan.proofs.Recorded.{file_of-record}
+use Rattle.plan.proofs.Recorded.{decoded-at}
 use Rattle.plan.proofs.Readings.{verdict-step, unmarked-rule}
 use Rattle.plan.proofs.Stepped.{StepsKept, kept-first, begun-before, room, refused-here, filled, one-step, same-rule, no-step-rule, worker-below, step-taken, stretch-more, read_through, records-read}
 use mathlib.Core.Option.{some}
@@ -16,12 +16,12 @@ pub returns-in_default : goal.returns-in_default
 returns-in_default c =
     let inv = c.loop-i.invariant in
     refused-here inv.3.size c.at.ensures
-    (sym (verdict-step _ _ _ c.loop-i-test.true (unmarked-rule _ _ (ap (λ q. decoded_of q) (file_of-record c.args.records.now c.loop-i.i) ∙ sym c.decode.ensures ∙ c.in_default.is))) ∙ inv.4)
+    (sym (verdict-step _ _ _ c.loop-i-test.true (unmarked-rule _ _ (decoded-at _ _ (sym c.decode.ensures ∙ c.in_default.is)))) ∙ inv.4)
 
 pub returns-in_default-row_of : goal.returns-in_default-row_of
 returns-in_default-row_of c =
     let inv = c.loop-i.invariant in
-    let here = one-step c.requires.steps_so_far c.loop-i-test.true inv.2 inv.3 (ap (λ q. decoded_of q) (file_of-record c.args.records.now c.loop-i.i) ∙ sym c.decode.ensures ∙ c.in-Some.is) in
+    let here = one-step c.requires.steps_so_far c.loop-i-test.true inv.2 inv.3 (decoded-at _ _ (sym c.decode.ensures ∙ c.in-Some.is)) in
     refused-here inv.3.size c.at-in_default-row_of.ensures
     (sym (verdict-step _ _ _ c.loop-i-test.true
     (same-rule here ∙ (no-step-rule here (sym c.row_of.ensures ∙ ap option_copied c.in_default-row_of.is) ∙ ap some (sym c.no_step.ensures))))
@@ -33,21 +33,21 @@ step_rule-requires-clause-by_index c = begun-before c.loop-i.invariant.3
 pub returns-in-Err : goal.returns-in-Err
 returns-in-Err c =
     let inv = c.loop-i.invariant in
-    let here = one-step c.requires.steps_so_far c.loop-i-test.true inv.2 inv.3 (ap (λ q. decoded_of q) (file_of-record c.args.records.now c.loop-i.i) ∙ sym c.decode.ensures ∙ c.in-Some.is) in
+    let here = one-step c.requires.steps_so_far c.loop-i-test.true inv.2 inv.3 (decoded-at _ _ (sym c.decode.ensures ∙ c.in-Some.is)) in
     refused-here inv.3.size c.at-in-Err.ensures
     (sym (verdict-step _ _ _ c.loop-i-test.true (same-rule here ∙ (sym c.step_rule.ensures ∙ ap rule_as c.in-Err.is))) ∙ inv.4)
 
 pub overflow_add-firsts : goal.overflow_add-firsts
 overflow_add-firsts c =
     let inv = c.loop-i.invariant in
-    let here = one-step c.requires.steps_so_far c.loop-i-test.true inv.2 inv.3 (ap (λ q. decoded_of q) (file_of-record c.args.records.now c.loop-i.i) ∙ sym c.decode.ensures ∙ c.in-Some.is) in
+    let here = one-step c.requires.steps_so_far c.loop-i-test.true inv.2 inv.3 (decoded-at _ _ (sym c.decode.ensures ∙ c.in-Some.is)) in
     let after = step-taken here (sym c.step_rule.ensures ∙ ap rule_as c.in_default-step_rule.is) (c.fill.ensures.after (λ y e. e)) in
     omega (arith, begun-before after c.in-Some.r.worker (omega arith), c.loop-i-test.true)
 
 pub read_stretch-i-requires-clause-from_le_end : goal.read_stretch-i-requires-clause-from_le_end
 read_stretch-i-requires-clause-from_le_end c =
     let inv = c.loop-i.invariant in
-    let here = one-step c.requires.steps_so_far c.loop-i-test.true inv.2 inv.3 (ap (λ q. decoded_of q) (file_of-record c.args.records.now c.loop-i.i) ∙ sym c.decode.ensures ∙ c.in-Some.is) in
+    let here = one-step c.requires.steps_so_far c.loop-i-test.true inv.2 inv.3 (decoded-at _ _ (sym c.decode.ensures ∙ c.in-Some.is)) in
     let after = step-taken here (sym c.step_rule.ensures ∙ ap rule_as c.in_default-step_rule.is) (c.fill.ensures.after (λ y e. e)) in
     omega (arith, room after c.in-Some.r.worker refl, c.min-end.ensures, c.loop-i-test.true)
 
@@ -56,7 +56,7 @@ loop-i-preserved c =
     let a = c.args in
     let i = c.loop-i.i in
     let inv = c.loop-i.invariant in
-    let here = one-step c.requires.steps_so_far c.loop-i-test.true inv.2 inv.3 (ap (λ q. decoded_of q) (file_of-record c.args.records.now c.loop-i.i) ∙ sym c.decode.ensures ∙ c.in-Some.is) in
+    let here = one-step c.requires.steps_so_far c.loop-i-test.true inv.2 inv.3 (decoded-at _ _ (sym c.decode.ensures ∙ c.in-Some.is)) in
     let passed = sym c.step_rule.ensures ∙ ap rule_as c.in_default-step_rule.is in
     let below = worker-below here passed in
     let after = step-taken here passed (c.fill.ensures.after (λ y e. e)) in

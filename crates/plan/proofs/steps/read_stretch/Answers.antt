@@ -2,10 +2,10 @@
 use Rattle.std.proofs.Common.{arith, option_copied, ℕ, ap, ◌∙◌, sym}
 use mathlib.Core.Path.{subst⁻¹}
 use native.Mathlib.Decide.{ℕ_discrete}
-use Rattle.plan.specs.Answer.{decoded_of, rule_as}
+use Rattle.plan.specs.Answer.{rule_as}
 use Rattle.plan.specs.Reading.{file_of}
 use Rattle.plan.specs.Stepping.{PlainStep}
-use Rattle.plan.proofs.Recorded.{file_of-record}
+use Rattle.plan.proofs.Recorded.{decoded-at}
 use Rattle.plan.proofs.Limited.{is_known}
 use Rattle.plan.proofs.steps.read_stretch.Goals as goal
 
@@ -15,7 +15,7 @@ loop-i-preserved c =
     let here : PlainStep (file_of c.args.records.now) c.args.n c.args.sizes.now c.args.worker c.loop-i.i =
     record {
       body = c.in-Some.r;
-      decoded = ap (λ q. decoded_of q) (file_of-record c.args.records.now c.loop-i.i) ∙ sym c.decode.ensures ∙ c.in-Some.is;
+      decoded = decoded-at _ _ (sym c.decode.ensures ∙ c.in-Some.is);
       same = c.if-r-worker.false;
       known = is_known _ _ (sym c.row_of.ensures ∙ ap option_copied c.in-Some-row_of.is);
       operands = sym c.operand_rule.ensures ∙ ap rule_as c.in-Ok.is;
