@@ -37,6 +37,10 @@ pub record Cut (file : List ℕ) (rs : List (List ℕ)) : Type 0 where
   pub chunks : rs ≡ first_chunks record_length (length file / record_length) file
   pub many : length rs ≡ length file / record_length
 
+pub cut_by : {file : List ℕ} {rs : List (List ℕ)} → wrong_length (length file) ≡ false
+    → rs ≡ first_chunks record_length (length file / record_length) file → length rs ≡ length file / record_length → Cut file rs
+cut_by fine chunks many = record { fine = fine; chunks = chunks; many = many }
+
 module _ {file : List ℕ} {rs : List (List ℕ)} (cut : Cut file rs) where
   pub some_records : 1 ≤ length rs
   unfolding record_count
@@ -71,6 +75,10 @@ pub record FirstTaken (file : List ℕ) (rs : List (List ℕ)) (first : Body) : 
   pub cut : Cut file rs
   pub decoded : decoded_of (record_from (get_or rs 0 []) 0) ≡ Some first
   pub right : wrong_plan (record_of first) ≡ false
+
+pub first_taken : {file : List ℕ} {rs : List (List ℕ)} {first : Body} → Cut file rs → decoded_of (record_from (get_or rs 0 []) 0) ≡ Some first
+    → wrong_plan (record_of first) ≡ false → FirstTaken file rs first
+first_taken cut decoded right = record { cut = cut; decoded = decoded; right = right }
 
 module _ {file : List ℕ} {rs : List (List ℕ)} {first : Body} (taken : FirstTaken file rs first) where
   some : 1 ≤ length rs

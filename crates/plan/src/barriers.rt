@@ -30,7 +30,8 @@ fn bad_barrier(low: u8, r: Record) -> bool
 pub fn read_barriers(records: &[[u8; RECORD_LENGTH]]) -> Result<Barriers, Refused>
     requires some_records { 1 ≤ length records.now }
     requires rules_hold { RulesHold (file_of records.now) 1 }
-    ensures { MatchResult result (λ b. BarriersRead (file_of records.now) (length records.now) b) (λ e. verdict_from (file_of records.now) (length records.now) 1 ≡ refused_as e) }
+    ensures { MatchResult result (λ b. BarriersRead (file_of records.now) (length records.now) b)
+        (λ e. verdict_from (file_of records.now) (length records.now) 1 ≡ refused_as e) }
 {
     let mut sizes = [0u8; BARRIER_COUNT];
     let mut low = 0u8;

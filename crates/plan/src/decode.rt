@@ -32,12 +32,12 @@ pub fn body(file: &[u8], at: usize) -> Record
     }
 }
 
-// The record of seven bytes, if it has the mark.
-pub fn decode(record: &[u8; RECORD_LENGTH]) -> Option<Record>
-    ensures { result ≡ decoded_of (record_from record.now 0) }
+// The record of these bytes, if it has the mark.
+pub fn decode(bytes: &[u8; RECORD_LENGTH]) -> Option<Record>
+    ensures { result ≡ decoded_of (record_from bytes.now 0) }
 {
-    if word(record[0], record[1]) != PLAN_MARK {
+    if word(bytes[0], bytes[1]) != PLAN_MARK {
         return None;
     }
-    Some(body(record, 0))
+    Some(body(bytes, 0))
 }

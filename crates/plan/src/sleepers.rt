@@ -29,8 +29,7 @@ pub fn read_sleepers(
 ) -> Result<usize, Refused>
     requires sleepers_coming { SleepersComing (file_of records.now) (length records.now) n start }
     requires fates_value { fates.old ≡ replicate workers_limit code_going }
-    ensures { MatchResult result
-        (λ next. SleepersRead (file_of records.now) (length records.now) start next fates.new)
+    ensures { MatchResult result (λ next. SleepersRead (file_of records.now) (length records.now) start next fates.new)
         (λ e. verdict_from (file_of records.now) (length records.now) start ≡ refused_as e) }
 {
     let mut low = 0u8;

@@ -11,8 +11,8 @@ use Rattle.plan.proofs.sleepers.read_sleepers.Goals as goal
 
 pub loop-i-init : goal.loop-i-init
 loop-i-init c = (
-  subst⁻¹ (λ (fates : List ℕ). SleepersAt (file_of c.args.records.now) (length c.args.records.now) c.args.n c.args.start c.args.start 0 fates) c.requires.fates_value
-      (sleepers-first c.requires.sleepers_coming),
+  subst⁻¹ (λ (fates : List ℕ). SleepersAt (file_of c.args.records.now) (length c.args.records.now) c.args.n c.args.start c.args.start 0 fates)
+      c.requires.fates_value (sleepers-first c.requires.sleepers_coming),
   refl,
 )
 

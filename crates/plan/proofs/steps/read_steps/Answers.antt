@@ -78,14 +78,15 @@ pub returns : goal.returns
 returns c =
     let inv = c.loop-i.invariant in
     let a = c.args in
-    let all : c.loop-i.i ≡ (length a.records.now) = omega (arith, inv.0, c.loop-i-test.false) in
-    let opened = filled c.loop-i.firsts _ c.loop-i.opened 9 (length a.records.now)
-    (omega (arith, inv.1, c.requires.steps_so_far.few)) (omega (arith, inv.3.size)) (c.fill-2.ensures.after (λ y e. e)) in
+    let file = file_of a.records.now in
+    let count = length a.records.now in
+    let all : c.loop-i.i ≡ count = omega (arith, inv.0, c.loop-i-test.false) in
+    let opened = filled c.loop-i.firsts _ c.loop-i.opened 9 count (omega (arith, inv.1, c.requires.steps_so_far.few)) (omega (arith, inv.3.size)) (c.fill-2.ensures.after (λ y e. e)) in
     record {
-      verdict = sym (read_through (file_of a.records.now) (length a.records.now)) ∙ (ap (λ (j : ℕ). verdict_from (file_of a.records.now) (length a.records.now) j) (sym all) ∙ inv.4);
+      verdict = sym (read_through file count) ∙ (ap (λ (j : ℕ). verdict_from file count j) (sym all) ∙ inv.4);
       size = opened.size ∙ inv.3.size;
       read = λ q.
-          let sleepers = sleepers_in (before (file_of a.records.now) a.start) in
+          let sleepers = sleepers_in (before file a.start) in
           let firsts = c.loop-i.firsts in
-          records-read (subst (λ (j : ℕ). StepsKept (file_of a.records.now) j a.n a.sizes.now sleepers c.loop-i.opened firsts) all inv.3) opened;
+          records-read (subst (λ (j : ℕ). StepsKept file j a.n a.sizes.now sleepers c.loop-i.opened firsts) all inv.3) opened;
     }
