@@ -12,6 +12,9 @@ pub const STRETCH: usize = 32;
 
 pub const CYCLES: usize = STRETCH * WORKERS_LIMIT;
 
+// `whole` stays a bool: a trait for the two ways is no plainer, with two types and four methods for these two tests, and it makes the
+// engine's loop, 9 of the archive's 16 kB, twice.
+
 // Behind a synchronising move: the next turn of a list; in a run to the end the holder's stretch or, as long as some are away, the cycles,
 // no matter where. No worker is looked for here: which one it would be cannot be foretold by the processor, and costs more than turns that pass.
 pub fn onward(whole: bool, away: u64, first: u64, next: usize) -> usize

@@ -27,6 +27,7 @@ impl Engine {
     {
         let mut i = from;
         let mut moves = made;
+        // No `for`: the index jumps over many turns that pass.
         while i < turns.len() {
             let w = turns[i] as usize;
             if self.can[w] {

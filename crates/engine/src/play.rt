@@ -68,6 +68,7 @@ pub fn play(
     };
     let mut t = engine.first_round(layout.workers as u64, memory);
     let mut i = 0;
+    // No `for`: `own`, `onward` and `again` say which turn is next.
     while i < turns.len() {
         let own = engine.own(file, &layout.firsts, turns, i, t.counts.moves, memory, work);
         i = own.turn;
