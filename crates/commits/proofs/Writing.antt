@@ -1,5 +1,5 @@
--- The commit of a stretch of bytes: none, one, and one stretch behind another.
-use Prim.Native.Nat.{ℕ, ◌+◌, ◌-◌, ◌*◌, ◌%◌, ◌<◌, ◌≤◌}
+-- The commit of a stretch of bytes: one stretch behind another, and a block in its place.
+use Prim.Native.Nat.{ℕ, ◌+◌, ◌-◌, ◌*◌, ◌/◌, ◌%◌, ◌<◌, ◌≤◌}
 use native.Mathlib.Omega.{arith}
 use native.Mathlib.Decide.{dec_lt}
 use mathlib.Core.Logic.{◌⊎◌, inl, inr}
@@ -15,9 +15,6 @@ use Rattle.protocol.specs.Sum.{sum_of}
 use Rattle.pages.proofs.Parts.{length-written, written_here, written_apart}
 use Rattle.commits.specs.Blocks.{block_size, block_words, left_of, BytesWritten, BlockWritten, BlockMoved}
 use Rattle.commits.proofs.Words.{chunk_at, block_same, block-moves}
-
-pub written_none : (first at : ℕ) (work memory : List ℕ) → BytesWritten first at 0 work memory memory
-written_none first at work memory = record { here = λ i h. absurd (omega arith); elsewhere = λ j h. refl; size = refl }
 
 module _ (first at : ℕ) (work memory : List ℕ) where
   abbrev left : ℕ → ℕ → ℕ
@@ -58,12 +55,19 @@ module _ (first at : ℕ) (work memory : List ℕ) where
 
 -- ---- a block, written in its place
 
--- a byte of block k of a page that stands at a place
-pub block_byte : (work page : List ℕ) (place n : ℕ) (blocks : List (List ℕ)) → ((j : ℕ) → j < page_size → get_or page j 0 ≡ get_or work (place + j) 0)
+-- a byte of a block of a page that stands at a place
+pub block_byte : (work page : List ℕ) (place n offset : ℕ) (blocks : List (List ℕ)) → ((j : ℕ) → j < page_size → get_or page j 0 ≡ get_or work (place + j) 0)
     → blocks ≡ first_chunks block_size n page
-    → (k i : ℕ) → k < n → i < block_size → block_size * k + i < page_size → get_or (get_or blocks k []) i 0 ≡ get_or work (place + (block_size * k + i)) 0
-block_byte work page place n blocks there are k i h l inside =
-    ap (λ (chunks : List (List ℕ)). get_or (get_or chunks k []) i 0) are ∙ chunk_at block_size n page k i h l ∙ there (block_size * k + i) inside
+    → offset % block_size ≡ 0 → offset / block_size < n → offset + block_size ≤ page_size
+    → (i : ℕ) → i < block_size → get_or (get_or blocks (offset / block_size) []) i 0 ≡ get_or work (place + offset + i) 0
+block_byte work page place n offset blocks there are whole h inside i l =
+    let here : block_size * (offset / block_size) + i ≡ offset + i = omega arith in
+    let behind : place + (offset + i) ≡ place + offset + i = omega arith in
+    ap (λ (chunks : List (List ℕ)). get_or (get_or chunks (offset / block_size) []) i 0) are
+    ∙ chunk_at block_size n page (offset / block_size) i h l
+    ∙ ap (λ (j : ℕ). get_or page j 0) here
+    ∙ there (offset + i) (omega arith)
+    ∙ ap (λ (j : ℕ). get_or work j 0) behind
 
 module _ (from at n : ℕ) (work memory mine twin shared' : List ℕ) (size : n ≡ block_size) (inside : from + block_size ≤ length memory)
     (is_mine : (i : ℕ) → i < block_size → get_or mine i 0 ≡ get_or work (at + i) 0)

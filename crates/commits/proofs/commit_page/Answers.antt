@@ -27,59 +27,54 @@ returns-then-not-copied-slot c =
 
 pub commit_block-total-requires : goal.commit_block-total-requires
 commit_block-total-requires c =
-    let a = c.args in
-    let m = c.loop-k.memory in
-    let from = 256 * a.p + 64 * c.loop-k.k in
+    let m = c.loop-offset.memory in
+    let from = 256 * c.args.p + c.loop-offset.offset in
     let n = from + 64 - from in
-    let whole : length m ≡ memory_length = c.loop-k.invariant.size ∙ c.requires.0.memory_length in
-    let k_small : c.loop-k.k < 4 = omega (arith, c.as_chunks.ensures.front_len, c.split_at.ensures.front_len, c.loop-k-test.true) in
+    let whole : length m ≡ memory_length = c.loop-offset.invariant.size ∙ c.requires.0.memory_length in
     let same = block_same m (take n (drop from m)) from block_words (λ i h. get_or-take n (drop from m) i 0 (omega arith) ∙ get_or-drop from m i 0) in
     record {
       size = omega (arith, length-take n (drop from m), length-drop from m);
-      counted = omega (arith, same, c.loop-k.invariant.summed.afresh, block_counted m whole from (omega (arith, k_small)) (omega (arith, k_small)));
-      most = c.loop-k.invariant.summed.most;
+      counted = omega (arith, same, c.loop-offset.invariant.summed.afresh, block_counted m whole from (omega arith) (omega arith));
+      most = c.loop-offset.invariant.summed.most;
     }
 
-pub loop-k-preserved : goal.loop-k-preserved
-loop-k-preserved c =
+pub loop-offset-preserved : goal.loop-offset-preserved
+loop-offset-preserved c =
     let a = c.args in
-    let k = c.loop-k.k in
-    let m = c.loop-k.memory in
-    let from = 256 * a.p + 64 * k in
+    let o = c.loop-offset.offset in
+    let m = c.loop-offset.memory in
+    let from = 256 * a.p + o in
     let n = from + 64 - from in
     let at = copy_at a.slot in
     let pair = take (512 * a.slot + 512 - 512 * a.slot) (drop (512 * a.slot) a.work.now) in
-    let whole : length m ≡ memory_length = c.loop-k.invariant.size ∙ c.requires.0.memory_length in
-    let k_small : k < 4 = omega (arith, c.as_chunks.ensures.front_len, c.split_at.ensures.front_len, c.loop-k-test.true) in
+    let whole : length m ≡ memory_length = c.loop-offset.invariant.size ∙ c.requires.0.memory_length in
     let paired : (j : ℕ) → j < 512 → get_or pair j 0 ≡ get_or a.work.now (at + j) 0 = λ j h.
     get_or-take _ (drop (512 * a.slot) a.work.now) j 0 (omega arith) ∙ get_or-drop (512 * a.slot) a.work.now j 0 in
-    let mine = λ (i : ℕ) (h : i < block_size).
-    block_byte a.work.now c.split_at.result.0.now at _ c.as_chunks.result.0.now (λ j l.
+    let mine = block_byte a.work.now c.split_at.result.0.now at _ o c.as_chunks.result.0.now (λ j l.
     ap (λ (xs : List ℕ). get_or xs j 0) c.split_at.ensures.front ∙ get_or-take 256 pair j 0 l ∙ paired j (omega arith))
-    c.as_chunks.ensures.front k i (omega (arith, k_small)) h (omega (arith, k_small))
-    ∙ (let e : at + (block_size * k + i) ≡ at + block_size * k + i = omega arith in ap (λ (j : ℕ). get_or a.work.now j 0) e) in
+    c.as_chunks.ensures.front (omega arith) (omega arith) (omega arith) in
     let twin = λ (i : ℕ) (h : i < block_size).
-    block_byte a.work.now c.split_at.result.1.now (at + page_size) _ c.as_chunks-2.result.0.now (λ j l.
+    block_byte a.work.now c.split_at.result.1.now (at + page_size) _ o c.as_chunks-2.result.0.now (λ j l.
     ap (λ (xs : List ℕ). get_or xs j 0) c.split_at.ensures.back ∙ get_or-drop 256 pair j 0 ∙ paired (256 + j) (omega arith)
     ∙ (let e : at + (256 + j) ≡ at + page_size + j = omega arith in ap (λ (q : ℕ). get_or a.work.now q 0) e))
-    c.as_chunks-2.ensures.front k i (omega (arith, k_small)) h (omega (arith, k_small))
-    ∙ (let e : at + page_size + (block_size * k + i) ≡ at + block_size * k + page_size + i = omega arith in ap (λ (j : ℕ). get_or a.work.now j 0) e) in
-    let written = written_in_place from (at + block_size * k) n a.work.now m _ _ c.commit_block-total.new.shared (omega arith) (omega (arith, k_small)) mine twin c.commit_block-total.ensures.0 in
-    let moved = sum_in_place from (at + block_size * k) n a.work.now m _ _ c.commit_block-total.new.shared (omega arith) (omega (arith, k_small)) mine twin c.commit_block-total.ensures.0
-    whole (omega arith) c.loop-k.total c.commit_block-total.result c.loop-k.invariant.summed.afresh c.commit_block-total.ensures.1 in
-    let next : block_size * k + block_size ≡ block_size * (k + 1) = omega arith in
+    c.as_chunks-2.ensures.front (omega arith) (omega arith) (omega arith) i h
+    ∙ (let e : at + page_size + o + i ≡ at + o + page_size + i = omega arith in ap (λ (j : ℕ). get_or a.work.now j 0) e) in
+    let written = written_in_place from (at + o) n a.work.now m _ _ c.commit_block-total.new.shared (omega arith) (omega arith) mine twin c.commit_block-total.ensures.0 in
+    let moved = sum_in_place from (at + o) n a.work.now m _ _ c.commit_block-total.new.shared (omega arith) (omega arith) mine twin c.commit_block-total.ensures.0
+    whole (omega arith) c.loop-offset.total c.commit_block-total.result c.loop-offset.invariant.summed.afresh c.commit_block-total.ensures.1 in
     record {
-      size = written.size ∙ c.loop-k.invariant.size;
+      within = search rules;
+      whole = search rules;
+      size = written.size ∙ c.loop-offset.invariant.size;
       summed = summed (put_mid from n m c.commit_block-total.new.shared) _ (written.size ∙ whole) (λ i. search rules) moved;
-      written = subst (λ (l : ℕ). BytesWritten (page_size * a.p) at l a.work.now a.memory.now (put_mid from n m c.commit_block-total.new.shared)) next
-          (written_on (page_size * a.p) at a.work.now a.memory.now m _ (block_size * k) block_size c.loop-k.invariant.written written);
+      written = written_on (page_size * a.p) at a.work.now a.memory.now m _ o block_size c.loop-offset.invariant.written written;
     }
 
 pub returns : goal.returns
 returns c =
     let a = c.args in
-    let all : block_size * c.loop-k.k ≡ page_size = omega (arith, c.as_chunks.ensures.front_len, c.split_at.ensures.front_len) in (
-      page-written a.p a.slot (search rules) a.copied.now a.work.now a.memory.now c.loop-k.memory (not-false _ (search rules))
-          (subst (λ (n : ℕ). BytesWritten (page_size * a.p) (copy_at a.slot) n a.work.now a.memory.now c.loop-k.memory) all c.loop-k.invariant.written),
-      c.loop-k.invariant.summed,
+    let all : c.loop-offset.offset ≡ page_size = omega arith in (
+      page-written a.p a.slot (search rules) a.copied.now a.work.now a.memory.now c.loop-offset.memory (not-false _ (search rules))
+          (subst (λ (n : ℕ). BytesWritten (page_size * a.p) (copy_at a.slot) n a.work.now a.memory.now c.loop-offset.memory) all c.loop-offset.invariant.written),
+      c.loop-offset.invariant.summed,
     )
