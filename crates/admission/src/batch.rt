@@ -1,5 +1,5 @@
 // Whether a call with many plans is admitted.
-ghost use Rattle.std.specs.Prelude.{◌≡◌, ◌*◌, ◌≤◌, length};
+ghost use Rattle.std.specs.Prelude.{◌≡◌, ◌*◌, ◌/◌, ◌≤◌, length};
 ghost use Rattle.protocol.specs.Batch.{plans_limit, length_bytes, begins_at};
 ghost use Rattle.protocol.specs.Refusals.{ruled, accepted};
 ghost use Rattle.plan.specs.Answer.{rule_as};
@@ -9,7 +9,6 @@ use journal::log::LOG_LENGTH;
 use journal::report::REPORT_LENGTH;
 use pages::{MEMORY_LENGTH, WORK_LENGTH};
 use plan::answer::Refusal;
-use words::long_at;
 
 pub const PLANS_LIMIT: usize = 40;
 
@@ -41,14 +40,14 @@ fn uneven(count: usize, l: BatchLengths) -> bool
         || l.answers != count
 }
 
-// The bytes of so many files: no sum of 40 lengths wraps.
-fn add_up(count: usize, lengths: &[u8]) -> usize
-    requires { (count ≤ plans_limit) × (length_bytes * count ≤ length lengths.now) }
-    ensures { result ≡ begins_at lengths.now count }
+// The bytes of all files: no sum of 40 lengths wraps.
+fn add_up(lengths: &[u8]) -> usize
+    requires { length lengths.now ≤ length_bytes * plans_limit }
+    ensures { result ≡ begins_at lengths.now (length lengths.now / length_bytes) }
 {
     let mut sum = 0;
-    for k in 0..count {
-        sum += long_at(lengths, LENGTH_BYTES * k) as usize;
+    for bytes in lengths.as_chunks::<LENGTH_BYTES>().0 {
+        sum += u32::from_le_bytes(*bytes) as usize;
     }
     sum
 }
@@ -61,7 +60,7 @@ pub fn admit_batch(count: usize, lengths: &[u8], lent: BatchLengths) -> Result<(
     if lent.work != WORK_LENGTH {
         return Err(Refusal::BadBuffer);
     }
-    if uneven(count, lent) || add_up(count, lengths) != lent.files {
+    if uneven(count, lent) || add_up(lengths) != lent.files {
         return Err(Refusal::BadBatch);
     }
     Ok(())

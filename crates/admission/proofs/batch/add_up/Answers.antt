@@ -1,13 +1,17 @@
--- `add_up`: after k turns of the loop the sum is where file k begins.
-use native.Mathlib.Omega.{arith}
-use mathlib.Core.Path.{sym}
-use Rattle.admission.proofs.Beginning.{begins-first, begins-next}
+-- `add_up`: after some lengths the sum is where the next file begins.
+use Rattle.std.proofs.Common.{arith, sym, ap, ◌/◌, List, [], ℕ, length, get_or}
+use Rattle.protocol.specs.Format.{long_at}
+use Rattle.protocol.specs.Batch.{length_bytes}
+use Rattle.admission.proofs.Beginning.{begins-first, begins-next, length-in}
 use Rattle.admission.proofs.batch.add_up.Goals as goal
 
-pub loop-k-init : goal.loop-k-init
-loop-k-init c = (omega arith, sym (begins-first c.args.lengths.now), omega arith)
+pub loop-bytes-init : goal.loop-bytes-init
+loop-bytes-init c = (sym (begins-first c.args.lengths.now), omega arith)
 
-pub loop-k-preserved : goal.loop-k-preserved
-loop-k-preserved c =
-    let next = begins-next c.args.lengths.now c.loop-k.k c.long_at.result c.long_at.ensures in
-    (omega (arith, c.loop-k-test.true), omega (arith, next, c.loop-k.invariant.1), omega (arith, c.loop-k.invariant.2))
+pub loop-bytes-preserved : goal.loop-bytes-preserved
+loop-bytes-preserved c =
+    let lengths = c.args.lengths.now in
+    let i = c.loop-bytes.bytes-index in
+    let here = ap (λ (chunks : List (List ℕ)). long_at (get_or chunks i []) 0) c.as_chunks.ensures.front in
+    let next = begins-next lengths i c.from_le_bytes.result (omega (arith, c.from_le_bytes.ensures, here, length-in lengths (length lengths / length_bytes) i (omega (arith, c.as_chunks.ensures.front_len, c.loop-bytes-test.true)))) in
+    (omega (arith, next, c.loop-bytes.invariant.0), omega (arith, c.loop-bytes.invariant.1))
