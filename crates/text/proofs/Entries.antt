@@ -1,10 +1,11 @@
--- A log's bytes, read back: the records are those that were written. Callers want `entries-back` and `log_more`.
-use Prim.Native.Nat.{ℕ, zero, suc, ◌+◌, ◌*◌}
+-- A log's bytes, read back: the records are those that were written. Callers want `entries-back`, `entry-in` and `log_more`.
+use Prim.Native.Nat.{ℕ, zero, suc, ◌+◌, ◌*◌, ◌<◌, ◌≤◌}
 use native.Mathlib.Omega.{arith}
 use mathlib.Core.Path.{◌≡◌, refl, sym, ap, ◌∙◌}
 use mathlib.Core.List.{List, [], ◌∷◌, ◌++◌, append-nil, append_assoc}
-use lib.ListN.{length, get_or}
-use lib.Seq.{get_or-append-add}
+use lib.ListN.{length, get_or, take, drop}
+use lib.Seq.{get_or-append-add, get_or-take, get_or-drop}
+use Rattle.std.specs.Simd.{first_chunks}
 use Rattle.protocol.specs.Rounds.{Entry}
 use Rattle.protocol.specs.Report.{entry_length, entry_bytes, log_bytes}
 use Rattle.protocol.specs.Listing.{record_line, log_lines}
@@ -40,6 +41,34 @@ entries-back (e ∷ es) rest (more x h w) =
     ap (λ (r : ℕ). entry_as r e.worker e.op e.number e.outcome ∷ entries_from (entry_bytes e ++ (log_bytes es ++ rest)) (length es) 1)
     (word_bytes e.round (omega arith))
     ∙ ap (λ (l : List Entry). e ∷ l) (entries-behind e (log_bytes es ++ rest) (length es) 0 ∙ entries-back es rest w)
+
+-- the records of a log as arrays
+
+byte-in : (log : List ℕ) (n i j : ℕ) → i < n → j < entry_length → get_or (get_or (first_chunks entry_length n log) i []) j 0 ≡ get_or log (entry_length * i + j) 0
+byte-in log zero i j h l = absurd (omega arith)
+byte-in log (suc n) zero j h l = get_or-take entry_length log j 0 l ∙ ap (λ (at : ℕ). get_or log at 0) (omega arith)
+byte-in log (suc n) (suc i) j h l =
+    byte-in (drop entry_length log) n i j (omega arith) l
+    ∙ get_or-drop entry_length log (entry_length * i + j) 0
+    ∙ ap (λ (at : ℕ). get_or log at 0) (omega arith)
+
+-- the array at an index of the first so many bytes is the log's record there
+pub entry-in : (log : List ℕ) (i : ℕ) {n m : ℕ} {chunks : List (List ℕ)} → chunks ≡ first_chunks entry_length n (take m log) → (i < n) × (entry_length * n ≤ m)
+    → entry_at (get_or chunks i []) 0 ≡ entry_at log (entry_length * i)
+entry-in log i {n} {m} {chunks} front h =
+    cc (round_low, round_high, byte entry_worker (omega arith), byte entry_op (omega arith), byte entry_number (omega arith), byte entry_outcome (omega arith))
+  where
+    byte : (j : ℕ) → j < entry_length → get_or (get_or chunks i []) j 0 ≡ get_or log (entry_length * i + j) 0
+    byte j l =
+        ap (λ (cs : List (List ℕ)). get_or (get_or cs i []) j 0) front
+        ∙ byte-in (take m log) n i j h.0 l
+        ∙ get_or-take m log (entry_length * i + j) 0 (omega (arith, h.0, h.1))
+
+    round_low : get_or (get_or chunks i []) entry_round 0 ≡ get_or log (entry_length * i + entry_round) 0
+    round_low = byte entry_round (omega arith)
+
+    round_high : get_or (get_or chunks i []) (entry_round + 1) 0 ≡ get_or log (entry_length * i + entry_round + 1) 0
+    round_high = byte (entry_round + 1) (omega arith) ∙ ap (λ (at : ℕ). get_or log at 0) (omega arith)
 
 -- the lines of one record more
 

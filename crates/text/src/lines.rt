@@ -18,18 +18,17 @@ pub const RECORD_LINE_LIMIT: usize = 22;
 pub const END_LINE_LIMIT: usize = 15;
 
 impl<'a> Text<'a> {
-    // Round, worker, op, number and outcome of the record at a position of the log.
-    fn write_record(&mut self, log: &[u8], position: usize)
-        requires record_in_bounds { position + entry_length ≤ length log.now }
-        requires enough_room { record_line_limit ≤ room self.old }
-        ensures { WroteWithin record_line_limit self.old (record_line (entry_at log.now position)) self.new }
+    // A record's round, worker, op, number and outcome.
+    fn write_record(&mut self, entry: &[u8; ENTRY_LENGTH])
+        requires { record_line_limit ≤ room self.old }
+        ensures { WroteWithin record_line_limit self.old (record_line (entry_at entry.now 0)) self.new }
     {
         self.write_line(&[
-            u64::from(word_at(log, position + ENTRY_ROUND)),
-            u64::from(log[position + ENTRY_WORKER]),
-            u64::from(log[position + ENTRY_OP]),
-            u64::from(log[position + ENTRY_NUMBER]),
-            u64::from(log[position + ENTRY_OUTCOME]),
+            u64::from(word_at(entry, ENTRY_ROUND)),
+            u64::from(entry[ENTRY_WORKER]),
+            u64::from(entry[ENTRY_OP]),
+            u64::from(entry[ENTRY_NUMBER]),
+            u64::from(entry[ENTRY_OUTCOME]),
         ]);
     }
 
@@ -39,8 +38,8 @@ impl<'a> Text<'a> {
         requires enough_room { record_line_limit * records ≤ room self.old }
         ensures { WroteWithin (record_line_limit * records) self.old (log_lines (entries_from log.now records 0)) self.new }
     {
-        for i in 0..records {
-            self.write_record(log, ENTRY_LENGTH * i);
+        for entry in log[..ENTRY_LENGTH * records].as_chunks::<ENTRY_LENGTH>().0 {
+            self.write_record(entry);
         }
     }
 

@@ -3,5 +3,5 @@ use Rattle.protocol.specs.Listing.{log_lines}
 use Rattle.text.specs.Text.{record_line_limit, WroteWithin, entries_from}
 use Rattle.text.proofs.Text.write_log.Given as goal
 
-abbrev pub invariant-loop-i : goal.invariant-loop-i
-invariant-loop-i l = WroteWithin (record_line_limit * l.i) l.initial.self (log_lines (entries_from l.log l.i 0)) l.self
+abbrev pub invariant-loop-entry : goal.invariant-loop-entry
+invariant-loop-entry l = WroteWithin (record_line_limit * l.entry-index) l.initial.self (log_lines (entries_from l.log l.entry-index 0)) l.self
