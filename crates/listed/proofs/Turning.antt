@@ -1,12 +1,12 @@
--- The turns that a plan is listed with. Callers want `few-turns`, `measured`, `turn_more` and `all_listed`.
+-- The turns that a plan is listed with. Callers want `few-turns`, `measured` and `all_listed`.
 use Prim.Native.Nat.{ℕ, zero, suc, ◌+◌, ◌-◌, ◌*◌, ◌%◌, ◌<◌, ◌≤◌}
-use mathlib.Core.Path.{◌≡◌, sym, ap, ◌∙◌, subst, subst⁻¹}
+use mathlib.Core.Path.{◌≡◌, sym, ap, ◌∙◌, subst}
 use native.Mathlib.Nat as nat
 use mathlib.Core.List.{List, ◌++◌, map}
 use native.Mathlib.Omega.{arith}
 use native.Mathlib.Decide.{dec_lt}
-use lib.ListN.{length, get_or, set, take, get_or-append}
-use lib.Seq.{get_or-set_same, get_or-set_other, get_or-append-add, get_or-take, ext_get_or, length-take-le}
+use lib.ListN.{length, get_or, get_or-append}
+use lib.Seq.{get_or-append-add, ext_get_or}
 use Rattle.protocol.specs.Format.{workers_limit, steps_limit, Record, steps_in, first_in, workers_in, count_from, up_to, records, plan_in, plan_of}
 use Rattle.protocol.specs.Refusals.{Verdict, accepted, check}
 use Rattle.protocol.specs.Turns.{workers_of}
@@ -114,44 +114,22 @@ cycle-at n (suc k) i h =
           ∙ sym (nat.mod-eq-sub-mod (omega arith))))
     ]
 
--- one turn more is written
-pub turn_more : (turns : List ℕ) (n i : ℕ) → i < length turns → ((j : ℕ) → j < i → get_or turns j 0 ≡ j % n)
-    → (j : ℕ) → j < i + 1 → get_or (set turns i (i % n)) j 0 ≡ j % n
-turn_more turns n i h each j l =
-    elim (dec_lt j i) [
-      | yes b ↦ get_or-set_other turns i j (i % n) 0 (omega arith) ∙ each j b
-      | no b ↦
-          let here : j ≡ i = omega arith in
-          ap (λ (k : ℕ). get_or (set turns i (i % n)) k 0) here ∙ (get_or-set_same turns i (i % n) 0 h ∙ ap (λ (k : ℕ). k % n) (sym here))
-    ]
-
 whole-listed : (file turns : List ℕ) (steps n : ℕ) → check file ≡ accepted → n ≡ workers_in (records file) → steps ≡ step_count (plan_of file)
-    → turn_count steps n ≤ length turns
-    → ((i : ℕ) → i < turn_count steps n → get_or turns i 0 ≡ i % n)
-    → take (turn_count steps n) turns ≡ listed_turns (plan_of file)
-whole-listed file turns steps n ok same_n same_steps fits each =
-    ext_get_or 0 (take (turn_count steps n) turns) (cycles n (2 * (steps + n))) (long ∙ sym (length-cycles n (2 * (steps + n)))) same
+    → length turns ≡ turn_count steps n
+    → ((i : ℕ) → i < length turns → get_or turns i 0 ≡ i % n)
+    → turns ≡ listed_turns (plan_of file)
+whole-listed file turns steps n ok same_n same_steps long each =
+    ext_get_or 0 turns (cycles n (2 * (steps + n))) (long ∙ sym (length-cycles n (2 * (steps + n))))
+    (λ i h. each i h ∙ sym (cycle-at n (2 * (steps + n)) i (subst (λ (k : ℕ). i < k) long h)))
     ∙ (ap (λ (w : ℕ). cycles w (2 * (steps + w))) workers ∙ ap (λ (s : ℕ). cycles (workers_of (plan_of file)) (2 * (s + workers_of (plan_of file)))) same_steps)
   where
-    long : length (take (turn_count steps n) turns) ≡ turn_count steps n
-    long = length-take-le (turn_count steps n) turns fits
-
     workers : n ≡ workers_of (plan_of file)
     workers = same_n ∙ sym (workers-of (records file) (accepted-file file ok).records)
 
-    same : (i : ℕ) → i < length (take (turn_count steps n) turns) → get_or (take (turn_count steps n) turns) i 0 ≡ get_or (cycles n (2 * (steps + n))) i 0
-    same i h =
-        let l : i < turn_count steps n = subst (λ (k : ℕ). i < k) long h in
-        get_or-take (turn_count steps n) turns i 0 l ∙ (each i l ∙ sym (cycle-at n (2 * (steps + n)) i l))
-
 -- the turns that were written, by the numbers of the layout
-pub all_listed : (file turns : List ℕ) (l : Layout) (count : ℕ) → Measured file l
-    → count ≡ turn_count (get_or l.firsts l.workers 0 - get_or l.firsts 0 0) l.workers
-    → count ≤ length turns
-    → ((i : ℕ) → i < count → get_or turns i 0 ≡ i % l.workers)
-    → take count turns ≡ turns_by (check file) file
-all_listed file turns l count s same fits each =
-    ap (λ (k : ℕ). take k turns) same
-    ∙ (whole-listed file turns _ l.workers s.ok s.workers (omega (arith, s.counted)) (subst (λ (k : ℕ). k ≤ length turns) same fits)
-    (λ i h. each i (subst⁻¹ (λ (k : ℕ). i < k) same h))
-    ∙ sym (ap (λ (v : Verdict). turns_by v file) s.ok))
+pub all_listed : (file turns : List ℕ) (l : Layout) → Measured file l
+    → length turns ≡ turn_count (get_or l.firsts l.workers 0 - get_or l.firsts 0 0) l.workers
+    → ((i : ℕ) → i < length turns → get_or turns i 0 ≡ i % l.workers)
+    → turns ≡ turns_by (check file) file
+all_listed file turns l s long each =
+    whole-listed file turns _ l.workers s.ok s.workers (omega (arith, s.counted)) long each ∙ sym (ap (λ (v : Verdict). turns_by v file) s.ok)

@@ -21,16 +21,15 @@ fn turn_count(steps: usize, n: usize) -> usize
     2 * (steps + n) * n
 }
 
-// So many turns, which name 0 .. n − 1 again and again.
-fn fill(turns: &mut [u8], count: usize, n: usize)
-    requires count_in_bounds { count ≤ length turns.old }
+// Turns that name 0 .. n − 1 again and again.
+fn fill(turns: &mut [u8], n: usize)
     requires n_nonzero { 0 < n }
     requires n_le_workers_limit { n ≤ workers_limit }
     ensures turns_len_unchanged { length turns.new ≡ length turns.old }
-    ensures by_index { (i : ℕ) → i < count → get_or turns.new i 0 ≡ i % n }
+    ensures by_index { (i : ℕ) → i < length turns.new → get_or turns.new i 0 ≡ i % n }
 {
-    for i in 0..count {
-        turns[i] = (i % n) as u8;
+    for (i, turn) in turns.iter_mut().enumerate() {
+        *turn = (i % n) as u8;
     }
 }
 
@@ -46,6 +45,6 @@ pub fn write_turns(file: &[u8], turns: &mut [u8]) -> usize
     };
     let n = layout.workers as usize;
     let count = turn_count(layout.firsts[n] - layout.firsts[0], n);
-    fill(turns, count, n);
+    fill(&mut turns[..count], n);
     count
 }

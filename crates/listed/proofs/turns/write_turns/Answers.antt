@@ -1,6 +1,8 @@
 -- `write_turns`: the layout tells how many turns there are, and they are the listing's.
 use native.Mathlib.Omega.{arith}
-use mathlib.Core.Path.{subst}
+use mathlib.Core.Path.{◌≡◌, ◌∙◌, subst}
+use lib.ListN.{length}
+use Rattle.std.proofs.Common.{take_at, length-take-le}
 use Rattle.plan.specs.Checking.{CheckedAs}
 use Rattle.listed.proofs.Turning.{Measured, measured, all_listed}
 use Rattle.listed.proofs.turns.write_turns.Goals as goal
@@ -44,5 +46,9 @@ fill-requires-clause-n_le_workers_limit c =
 pub returns-clause-listed : goal.returns-clause-listed
 returns-clause-listed c =
     let layout_here : Measured c.args.file.now c.in-Ok.layout =
-    measured c.args.file.now c.in-Ok.layout (subst (λ r. CheckedAs c.args.file.now r) c.in-Ok.is c.check.ensures) in all_listed _ _ _ _ layout_here c.turn_count-count.ensures.value
-    (omega (arith, c.turn_count-count.ensures.upper_bound, c.fill.ensures.turns_len_unchanged, c.requires)) c.fill.ensures.by_index
+    measured c.args.file.now c.in-Ok.layout (subst (λ r. CheckedAs c.args.file.now r) c.in-Ok.is c.check.ensures) in
+    let turns = c.fill.new.turns in
+    let long : length turns ≡ c.turn_count-count.result =
+    c.fill.ensures.turns_len_unchanged ∙ length-take-le _ _ (omega (arith, c.requires, c.turn_count-count.ensures.upper_bound)) in
+    take_at turns _ c.turn_count-count.result long
+    ∙ all_listed c.args.file.now turns c.in-Ok.layout layout_here (long ∙ c.turn_count-count.ensures.value) c.fill.ensures.by_index
