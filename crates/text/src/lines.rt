@@ -1,5 +1,5 @@
 // The lines of a listing.
-ghost use Rattle.std.specs.Prelude.{[], ◌∷◌, ◌++◌, ◌+◌, ◌*◌, ◌/◌, ◌%◌, ◌≤◌, length};
+ghost use Rattle.std.specs.Prelude.{[], ◌∷◌, ◌++◌, ◌*◌, ◌/◌, ◌%◌, ◌≤◌, length};
 ghost use Rattle.protocol.specs.Report.{entry_length};
 ghost use Rattle.protocol.specs.Listing.{space, record_line, log_lines, end_word, refusal_line};
 ghost use Rattle.text.specs.Text.{record_line_limit, end_word_limit, end_line_limit, refusal_line_limit, room, WroteWithin, entry_at, entries_from, end_numbered, last_line};
