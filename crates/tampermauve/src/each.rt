@@ -89,6 +89,7 @@ pub fn run_plans(
     let mut at = 0;
     for k in 0..count {
         let end = at + long_at(lengths, LENGTH_BYTES * k) as usize;
+        // The parts are cut by index: after a loan of chunks_exact_mut nothing is known of the elements.
         let memory = MEMORY_LENGTH * k;
         let log = LOG_LENGTH * k;
         let report = REPORT_LENGTH * k;
