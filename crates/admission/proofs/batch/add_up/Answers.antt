@@ -14,6 +14,9 @@ loop-bytes-preserved c =
     let i = c.loop-bytes.bytes-index in
     let here = ap (λ (chunks : List (List ℕ)). long_at (get_or chunks i []) 0) c.as_chunks.ensures.front in
     let next = begins-next lengths i c.from_le_bytes.result (omega (
-        arith, c.from_le_bytes.ensures, here,
-        length-in lengths (length lengths / length_bytes) i (omega (arith, c.as_chunks.ensures.front_len, c.loop-bytes-test.true)))) in
+      arith,
+      c.from_le_bytes.ensures,
+      here,
+      length-in lengths (length lengths / length_bytes) i (omega (arith, c.as_chunks.ensures.front_len, c.loop-bytes-test.true)),
+    )) in
     (omega (arith, next, c.loop-bytes.invariant.0), omega (arith, c.loop-bytes.invariant.1))
