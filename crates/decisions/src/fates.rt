@@ -9,7 +9,6 @@ ghost use Rattle.decisions.specs.Fates.{FatesSettled};
 
 use format::fates::GOING;
 use format::limits::WORKERS_LIMIT;
-use queue::Queue;
 use rules::ruling::{Goes, Moves, Ruling};
 
 // The code of the holder's fate.
@@ -22,17 +21,7 @@ pub fn code_after(goes: Goes) -> u64
     }
 }
 
-// None of these workers waits any more.
-fn free(fates: &mut [u64; WORKERS_LIMIT], queued: Queue)
-    requires { Below workers_limit queued }
-    ensures { fates.new ≡ set_all 0 queued fates.old }
-{
-    for w in queued {
-        fates[w as usize] = GOING;
-    }
-}
-
-// Nor do those whom a ruling moves, or they sleep no more.
+// Those whom a ruling moves wait or sleep no more.
 fn free_moved(fates: &mut [u64; WORKERS_LIMIT], moves: Moves)
     requires { Below workers_limit (moved_of moves) }
     ensures { fates.new ≡ set_all 0 (moved_of moves) fates.old }
@@ -40,7 +29,7 @@ fn free_moved(fates: &mut [u64; WORKERS_LIMIT], moves: Moves)
     match moves {
         Moves::Nobody => {}
         Moves::Wakes(w) | Moves::Starts(w) => fates[w as usize] = GOING,
-        Moves::Joins(queued) => free(fates, queued),
+        Moves::Joins(queued) => queued.set_all(fates, GOING),
     }
 }
 

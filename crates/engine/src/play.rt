@@ -14,19 +14,19 @@ use journal::report::Counts;
 use pages::SLOTS;
 use plan::check::Layout;
 use queue::Queue;
-use token::raise;
 use worker::registers::Registers;
 
 impl Engine {
     // Round 1 of n workers: all of them who are awake are in its list, and can move. The sum of shared memory's words is worked out here and
     // nowhere else.
+    #[tactic(auto, unfolding(token::specs::Token::raised))]
     fn first_round(&mut self, n: u64, memory: &[u8]) -> Schedule
         requires { (n ≤ workers_limit) × (length memory.now ≡ memory_length) }
         ensures begun { RoundBegun n self.old.fates self.old.can memory.now result self.new.can }
         ensures others { self.new ≡ record self.old { can = self.new.can } }
     {
         let list = Queue::among(n, &self.fates, GOING);
-        raise(&mut self.can, list);
+        list.set_all(&mut self.can, true);
         Schedule {
             lists: Lists {
                 list,

@@ -6,7 +6,7 @@ ghost use Rattle.std.specs.Iterator.{item_count};
 ghost use Rattle.protocol.specs.Format.{workers_limit, up_to};
 ghost use Rattle.protocol.specs.Rounds.{keep, member, without};
 ghost use Rattle.protocol.specs.Turns.{none_left};
-ghost use Rattle.queue.specs.List.{Below, AllWorkers, YieldsWorker};
+ghost use Rattle.queue.specs.List.{Below, set_all, AllWorkers, YieldsWorker};
 
 use format::limits::WORKERS_LIMIT;
 use std::marker::Model;
@@ -164,6 +164,16 @@ impl Queue {
         ensures { result ≡ keep (λ w. not (eqb (get_or entries.now w 0) entry)) self }
     {
         self.kept(|w| entries[w as usize] != entry)
+    }
+
+    // Each of these workers has the entry.
+    pub fn set_all<T: Copy>(self, entries: &mut [T; WORKERS_LIMIT], entry: T)
+        requires { Below workers_limit self }
+        ensures { entries.new ≡ set_all entry self entries.old }
+    {
+        for w in self {
+            entries[w as usize] = entry;
+        }
     }
 }
 

@@ -6,7 +6,7 @@ pub mod passes;
 ghost use Rattle.std.specs.Prelude.{◌≡◌, ◌-◌, ◌≤◌, ◌<◌, IfSome, unwrap_or};
 ghost use Rattle.protocol.specs.Format.{workers_limit};
 ghost use Rattle.queue.specs.List.{Below};
-ghost use Rattle.token.specs.Token.{arrived_can, raised, TurnedOver, FirstAble};
+ghost use Rattle.token.specs.Token.{arrived_can, TurnedOver, FirstAble};
 
 use format::limits::WORKERS_LIMIT;
 use queue::Queue;
@@ -33,17 +33,8 @@ pub fn arrive(first: u64, away: u64, w: usize, can: &mut [bool; WORKERS_LIMIT]) 
     left
 }
 
-// All of these can move.
-pub fn raise(can: &mut [bool; WORKERS_LIMIT], workers: Queue)
-    requires { Below workers_limit workers }
-    ensures { can.new ≡ raised workers can.old }
-{
-    for w in workers {
-        can[w as usize] = true;
-    }
-}
-
 // After the holder h's step: the first in the list holds the token, or, where nobody is in the list, the next round begins.
+#[tactic(auto, unfolding(crate::specs::Token::raised))]
 pub fn turn_over(
     first: Option<u64>,
     next: Queue,
@@ -63,7 +54,7 @@ pub fn turn_over(
             rounds,
         };
     }
-    raise(can, next);
+    next.set_all(can, true);
     Round {
         begun: Some(next),
         away: next.count(),
