@@ -53,6 +53,7 @@ fn add_up(lengths: &[u8]) -> usize
 }
 
 // The tests in the paper's order: 11, then 15.
+// The count is C's number, and need not fit the lengths: whether it does is what is tested.
 pub fn admit_batch(count: usize, lengths: &[u8], lent: BatchLengths) -> Result<(), Refusal>
     requires { lent.lengths ≡ length lengths.now }
     ensures { ruled (rule_as result) 0 accepted ≡ batch_for count lengths.now lent }

@@ -1,5 +1,6 @@
 // A worker's commit: shared memory gets what the worker changed, and the sum of shared memory's words is moved by as much. A page is
 // committed block by block, and where no byte of a block differs from its twin neither memory nor the sum is looked at.
+// Memory, work and copied stay parameters, as in crate pages: in one struct own steps took 6 % more instructions.
 #![tactic(auto)]
 
 pub mod sum;

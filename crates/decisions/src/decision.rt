@@ -20,6 +20,7 @@ pub struct Decision {
 }
 
 // Decides the step of the holder h with this op and number: a broadcast by itself, every other one by its ruling.
+// The op and its number, and no Record: that is a type of crate plan, which this crate does not use.
 pub fn decide(
     op: u8,
     number: u16,
@@ -39,6 +40,7 @@ pub fn decide(
     let code = Fate::AtBarrier(number).code();
     let after = lists.carry_out(&ruling, h as u64, fates, code);
     settle_fates(fates, &ruling, h);
+    // Three of the ruling's five parts: a struct of the three would be taken apart here and built anew by the broadcast.
     Decision {
         bytes: ruling.bytes,
         held: ruling.held,

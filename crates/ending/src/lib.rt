@@ -24,6 +24,7 @@ fn all_over(fates: &[u64; WORKERS_LIMIT], workers: u8) -> bool
 }
 
 // The plan has ended where nobody is left in this round's list.
+// `ended` is a fact of the round's list, of which an End is made here, and no switch on which step to run.
 fn end_of(ended: bool, fates: &[u64; WORKERS_LIMIT], workers: u8) -> End
     requires { workers ≤ workers_limit }
     ensures { end_as result ≡ end_when ended fates.now workers }
@@ -38,6 +39,7 @@ fn end_of(ended: bool, fates: &[u64; WORKERS_LIMIT], workers: u8) -> End
 }
 
 // The log's rest is cleared, and the report is written. Of this round's list nothing is asked but whether nobody is left in it.
+// Each is a part of the report and comes from another place: a struct of them would be made for this call alone.
 pub fn close_buffers(
     ended: bool,
     c: Counts,

@@ -26,6 +26,7 @@ use token::turn_over;
 use writer::LogWriter;
 
 // The holder's copies: kept, committed to shared memory, or lost. The sum of shared memory's words, moved by a commit.
+// Memory, work and copied stay parameters, as in crate pages.
 fn settle_bytes(
     bytes: Uncommitted,
     h: usize,
@@ -73,6 +74,7 @@ fn begun(lists: Lists, next: Option<Queue>) -> Lists
 }
 
 // The step's record in the log, and the log's mark behind it.
+// It makes the writer and takes the mark out of it, so that contracts above speak of no writer (docs/DECISIONS.md, 33).
 fn record_step(
     r: Record,
     h: usize,
@@ -101,6 +103,7 @@ fn record_step(
 
 impl Engine {
     // The holder w's step: decided, then written.
+    // The lent buffers stay parameters, for the reason in state.rt.
     pub fn hold(
         &mut self,
         r: Record,

@@ -11,6 +11,7 @@ use token::passes::pass_over;
 
 impl Engine {
     // Plays turns from `from` on, before which so many moves were made, as long as they pass or make an own step.
+    // The lent buffers stay parameters, for the reason in state.rt.
     pub fn own(
         &mut self,
         file: &[u8],

@@ -46,6 +46,7 @@ impl Engine {
 
 // Plays the turns from the start of round 1, at which the fates have the layout's codes. A turn by a worker that cannot move passes.
 // A run to the end plays turns of its own choice, as long as a worker can move.
+// `whole` stays a bool, and the lent buffers stay parameters, for the reasons in onward.rt and state.rt.
 pub fn play(
     file: &[u8],
     layout: &Layout,

@@ -13,6 +13,7 @@ use worker::registers::Registers;
 
 // An entry for each worker, and the marks of the copied pages. The fates stand by their codes; `can` says who can move. The lent bytes are no
 // fields here: behind one reference the borrow checker does not lend one buffer as `&` while another is lent as `&mut`, as each store has it.
+// Parallel arrays: an array of records took 1.4 to 2 times as long in the loop over own steps (docs/DECISIONS.md, 129).
 #[derive(Drop)]
 pub struct Engine {
     pub places: [usize; WORKERS_LIMIT],

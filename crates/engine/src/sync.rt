@@ -10,6 +10,7 @@ use token::arrive;
 
 impl Engine {
     // Its arrival at the fence, or, with the token, its step.
+    // The lent buffers stay parameters, for the reason in state.rt.
     pub fn sync(
         &mut self,
         r: Record,

@@ -1,4 +1,5 @@
 // The ops: those of the records that are no steps, and those of the paper's table, in its order.
+// Bytes and no enum: code, header and definitions have one table, and an enum's TryFrom took 2.0 ns a byte against 0.39.
 pub const PLAN_RECORD: u8 = 0;
 
 pub const BARRIER_RECORD: u8 = 1;

@@ -5,8 +5,7 @@ ghost use Rattle.format.specs.Table.{limits, limits_for, place_in};
 
 use crate::{limits, ops};
 
-// An op, the largest register, and the smallest and the largest number. All are of one width: with padding between them the rows are made part
-// by part.
+// An op, the largest register, and the smallest and the largest number. All are of one width: a row is eight bytes.
 #[derive(Clone, Copy, PartialEq, Eq)]
 pub struct Row {
     pub op: u16,
@@ -22,6 +21,7 @@ const FIRST_SYNC: usize = 7;
 
 const LAST_REGISTER: u16 = limits::REGISTER_COUNT - 1;
 
+// A static: as a constant it would be made anew at each use.
 static ROWS: [Row; ROW_COUNT] = [
     Row {
         op: ops::SET as u16,

@@ -56,10 +56,11 @@ impl Entry {
 }
 
 // Clears what is behind the records.
+// The log with its fill mark beside it: the paper's form, and docs/PROMISES.md names this function.
 pub fn clear_behind(log: &mut [u8], records: usize)
     requires { entry_length * records ≤ length log.old }
     ensures { log.new ≡ take (entry_length * records) log.old ++ replicate (length log.old - entry_length * records) 0 }
 {
     let at = ENTRY_LENGTH * records;
-    log[at..].fill(0);
+    words::clear(&mut log[at..]);
 }

@@ -26,6 +26,7 @@ pub const REPORT_SUM: usize = REPORT_FATES + WORKERS_LIMIT;
 pub const REPORT_LENGTH: usize = REPORT_SUM + SUM_LENGTH;
 
 // The bytes of fates that are not their codes (format::fates): one for any condition, one for any barrier, one for a sleeper, one for no worker.
+// Bytes and no enum: they are C's (TAMPERMAUVE_FATE_.. of the header), written in one place and read nowhere here.
 const SHOWN_ON_CONDITION: u8 = 3;
 
 const SHOWN_AT_BARRIER: u8 = 4;
@@ -43,6 +44,7 @@ pub struct Counts {
 }
 
 // The byte of a worker's fate, by its code. The codes on conditions are even, those at barriers odd.
+// By the code and no Fate: docs/PROMISES.md names this function, and it takes any number.
 fn fate_byte(code: u64) -> u8
     ensures { result ≡ shown_by code }
 {
@@ -68,6 +70,7 @@ fn fate_bytes(fates: &[u64; WORKERS_LIMIT], workers: u8) -> [u8; WORKERS_LIMIT]
 }
 
 // Writes the report: end, number of workers, moving turns, rounds, log records, the eight fates, and the sum of shared memory's words.
+// `end` is a byte and no End: docs/PROMISES.md names this function, and `report_of` says what any byte gives.
 pub fn write_report(
     report: &mut [u8],
     end: u8,

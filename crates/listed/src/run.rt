@@ -8,6 +8,7 @@ use pages::WORK_LENGTH;
 use tampermauve::tampermauve_run;
 
 // Runs a plan from zero memory. Returns what tampermauve_run does.
+// A number and no Result: docs/PROMISES.md says of it that it returns `check_code`.
 pub fn run_listed(file: &[u8], memory: &mut [u8], log: &mut [u8], report: &mut [u8]) -> u32
     requires zero_memory { memory.old ≡ replicate memory_length 0 }
     requires whole_log { length log.old ≡ log_length }

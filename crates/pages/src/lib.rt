@@ -23,6 +23,7 @@ impl Page {
     pub const PAIR: usize = 2 * Page::SIZE;
 }
 
+// One array of marks: a worker's eight stand side by side and are read at once (`commits::any_copy`).
 pub const SLOTS: usize = WORKERS_LIMIT * Page::COUNT;
 
 pub const MEMORY_LENGTH: usize = Page::COUNT * Page::SIZE;

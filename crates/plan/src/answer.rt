@@ -50,6 +50,7 @@ impl From<Refusal> for u32 {
 }
 
 // An answer as one number for C: 0, or the refusal + 256 × the index.
+// By arithmetic and no From: docs/PROMISES.md names it, and it is one of any Result with a refusal.
 pub fn code<T>(answer: &Result<T, Refused>) -> u32
     requires { Indexed answer.now }
     ensures { result ≡ code_of (verdict_of answer.now) }

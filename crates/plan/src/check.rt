@@ -30,6 +30,7 @@ fn bad_length(bytes: usize) -> bool
     bytes == 0 || bytes % RECORD_LENGTH != 0 || FILE_LIMIT < bytes
 }
 
+// Apart from bad_barrier and bad_sleep: see barriers.rt.
 fn bad_plan(r: Record) -> bool
     ensures { result ≡ wrong_plan (record_of r) }
 {

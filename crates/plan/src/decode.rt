@@ -20,6 +20,7 @@ pub struct Record {
 const NUMBER_HIGH: usize = RECORD_NUMBER + 1;
 
 // What stands behind the mark of the record whose first byte is at a position.
+// By a place and no array: the engine fetches a step by its place in the file, and docs/PROMISES.md names it.
 pub fn body(file: &[u8], at: usize) -> Record
     requires { at + record_length ≤ length file.now }
     ensures { result ≡ body_of (record_from file.now at) }
@@ -33,6 +34,7 @@ pub fn body(file: &[u8], at: usize) -> Record
 }
 
 // The record of these bytes, if it has the mark.
+// Each caller opens the answer by `let .. else`: the paper's form of a record that ends the reading.
 pub fn decode(bytes: &[u8; RECORD_LENGTH]) -> Option<Record>
     ensures { result ≡ decoded_of (record_from bytes.now 0) }
 {

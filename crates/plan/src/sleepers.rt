@@ -13,6 +13,7 @@ use format::limits::{RECORD_LENGTH, WORKERS_LIMIT};
 use format::ops;
 
 // Whether a sleep record is refused, where the next sleeper is at least `low` and there are n workers.
+// Apart from bad_plan and bad_barrier: see barriers.rt.
 fn bad_sleep(low: u8, n: u8, r: Record) -> bool
     ensures { result ≡ refuses_sleep low n r }
 {
@@ -21,6 +22,7 @@ fn bad_sleep(low: u8, n: u8, r: Record) -> bool
 
 // Reads the records from `start` on, behind the barrier records, as long as they are sleep records, and notes who is asleep at first. Answers
 // the index of the first record behind them.
+// Apart from read_barriers: see barriers.rt.
 pub fn read_sleepers(
     records: &[[u8; RECORD_LENGTH]],
     n: u8,
@@ -33,6 +35,7 @@ pub fn read_sleepers(
         (λ e. verdict_from (file_of records.now) (length records.now) start ≡ refused_as e) }
 {
     let mut low = 0u8;
+    // By index: with enumerate and skip the loop's facts do not name the index, and its invariant stayed open.
     for i in start..records.len() {
         let Some(r) = decode(&records[i]) else {
             return Err(Refusal::BadMark.at(i));

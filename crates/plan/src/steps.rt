@@ -75,6 +75,7 @@ fn operand_rule(row: &Row, r: Record, n: usize, sizes: &[u8; BARRIER_COUNT]) -> 
 }
 
 // The rule of a step, whose op has the row.
+// One caller has these seven, and no other function takes them together: a struct would be made for this call alone.
 fn step_rule(
     row: &Row,
     r: Record,
@@ -150,6 +151,7 @@ pub fn read_steps(
     let n = n as usize;
     let mut opened = 0usize;
     let mut i = start;
+    // No `for`: the next record is the one behind the stretch that was read.
     while i < records.len() {
         let Some(r) = decode(&records[i]) else {
             return Err(Refusal::BadMark.at(i));

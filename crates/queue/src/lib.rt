@@ -12,6 +12,7 @@ use format::limits::WORKERS_LIMIT;
 use std::marker::Model;
 
 // Base-16 digits, the first worker lowest; unit is 16 to the power of len. An array of bytes with a length took 1.7 times as long.
+// Below stays in contracts: as an invariant it would ask more of `cons`, which takes any w < 16 (docs/PROMISES.md names it).
 #[derive(Clone, Copy)]
 pub struct Queue {
     digits: u64,
@@ -159,6 +160,7 @@ impl Queue {
     }
 
     // Those whose entry is not the key.
+    // Beside select: docs/PROMISES.md names both. The scan of the two is one, `kept`.
     pub fn reject(self, entries: &[u64; WORKERS_LIMIT], entry: u64) -> Queue
         requires { Below workers_limit self }
         ensures { result ≡ keep (λ w. not (eqb (get_or entries.now w 0) entry)) self }

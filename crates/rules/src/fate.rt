@@ -15,6 +15,7 @@ pub enum Fate {
 }
 
 impl Fate {
+    // A method and no From: docs/PROMISES.md names it so.
     pub fn code(self) -> u64
         ensures { result ≡ fate_code (fate_of self) }
     {

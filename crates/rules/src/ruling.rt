@@ -17,6 +17,7 @@ use locks::{count, holds, with, without};
 use queue::Queue;
 
 // Outcomes that name neither a worker nor a count.
+// Bytes and no enum: an outcome is the log's byte, a count or a worker as well, and an enum would only be turned into it.
 pub const OUTCOME_QUEUED: u8 = 0;
 
 pub const OUTCOME_STARTED: u8 = 1;
@@ -75,6 +76,7 @@ fn committed(held: u64) -> Ruling
     }
 }
 
+// Means and `calm` are the promise of each rule, on what it answers: no fact of a value that a type could hold.
 fn failed(held: u64) -> Ruling
     ensures means { Means held result failure }
     ensures calm { result.moves ≡ Nobody }
@@ -106,6 +108,7 @@ fn commits_at_zero(held: u64) -> Uncommitted
     }
 }
 
+// Apart from unlock: two rules of the paper, each with its definition (lock_rule, unlock_rule).
 fn lock(k: u64, held: u64) -> Ruling
     requires { (k ≤ lock_limit) × Held held }
     ensures means { Means held result (lock_rule by_name k) }
@@ -139,6 +142,7 @@ fn unlock(k: u64, held: u64) -> Ruling
     }
 }
 
+// Apart from exit: two rules of the paper, each with its definition (wait_rule, exit_rule).
 #[tactic(auto, using(crate::proofs::Rulings::held_some))]
 fn wait(condition: u16, held: u64) -> Ruling
     ensures means { Means held result (wait_rule condition) }
@@ -153,6 +157,7 @@ fn wait(condition: u16, held: u64) -> Ruling
     }
 }
 
+// `waiting` and `fates` stay two: the list goes by value in a Schedule, the fates are a field of Engine that is lent.
 fn signal(condition: u16, held: u64, waiting: Queue, fates: &[u64; WORKERS_LIMIT]) -> Ruling
     requires { Below workers_limit waiting }
     ensures means { Means held result (signal_rule (found fates.now waiting (condition_code condition))) }
@@ -243,6 +248,7 @@ fn start(target: usize, held: u64, waiting: Queue, fates: &[u64; WORKERS_LIMIT])
 }
 
 // The rule of the step with this op and number, no broadcast, where these wait, each where its fate's code says.
+// The op and its number, and no Record: that is a type of crate plan, which this crate does not use.
 #[inline(always)]
 pub fn rule(
     op: u8,

@@ -39,6 +39,7 @@ fn fill_stretches(turns: &mut [u8])
 }
 
 // Runs one plan to its end. A refused plan changes no byte.
+// The buffers go one by one, as C lends them and as `perform` takes them.
 fn run_plan(
     file: &[u8],
     turns: &[u8],
@@ -57,6 +58,7 @@ fn run_plan(
 }
 
 // A plan's byte: 0, or the number of its refusal without the index.
+// A byte and no Result: it goes into the buffer of answers, which is C's.
 fn answer(ran: Result<(), Refused>) -> u8
     ensures { result ≡ answer_for ran }
 {
@@ -67,6 +69,7 @@ fn answer(ran: Result<(), Refused>) -> u8
 }
 
 // Runs all plans, in order. Whether one of them was accepted, so that work is to be cleared.
+// The count and the flat buffers are C's; docs/PROMISES.md names this function.
 pub fn run_plans(
     count: usize,
     files: &[u8],

@@ -1,4 +1,5 @@
 // The host calls, which crate `tampermauve_c` exports to C.
+// Answers as numbers, a count, and buffers one by one are C's interface: the exports hand them on with the same clauses.
 #![tactic(auto)]
 
 mod each;
@@ -48,7 +49,7 @@ pub fn tampermauve_run(
         return code(&admitted);
     };
     perform(file, layout, turns, false, memory, log, report, work);
-    work.fill(0);
+    words::clear(work);
     ACCEPTED
 }
 
@@ -83,7 +84,7 @@ pub fn tampermauve_run_all(
         count, files, lengths, memories, logs, reports, answers, work,
     );
     if accepted {
-        work.fill(0);
+        words::clear(work);
     }
     ACCEPTED
 }

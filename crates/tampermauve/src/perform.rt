@@ -8,6 +8,7 @@ use plan::check::Layout;
 // Plays the turns of an accepted file, or runs it to its end, and leaves log and report. What is in work does not matter before or after.
 // The buffers go one by one and in no struct: run_plans cuts them out of longer ones, and of a part that a struct's field lends nothing but its
 // length is known after the loan. That leaves run_plans open.
+// `whole` stays a bool, and the buffers stay parameters, for the reasons in onward.rt and state.rt of crate engine.
 pub fn perform(
     file: &[u8],
     layout: &Layout,

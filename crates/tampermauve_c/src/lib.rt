@@ -1,5 +1,6 @@
 // The static library that C programs link: the three calls of `tampermauve` under the names of include/tampermauve.h, each with the same
 // clauses. To C a slice is a pointer and a length.
+// Answers as numbers, the count, and the buffers one by one are C's interface.
 #![tactic(auto)]
 
 ghost use Rattle.std.specs.Prelude.{◌≡◌};

@@ -7,6 +7,7 @@ ghost use Rattle.std.specs.Prelude.{◌≡◌, [], ◌∷◌, ◌+◌, ◌≤◌
 ghost use Rattle.protocol.specs.Listing.{decimal, line, separator as separator_before};
 
 // What is written stands at the start of the slice. `end` is the place behind it.
+// A lent slice and no String: no heap.
 #[derive(Drop)]
 pub struct Text<'a> {
     bytes: &'a mut [u8],
@@ -31,6 +32,7 @@ impl<'a> Text<'a> {
         &self.bytes[..self.end]
     }
 
+    // Wrote says what each method leaves, of the text before and behind it: no fact of one value that the type could hold.
     fn write_byte(&mut self, byte: u8)
         requires { 0 < room self.old }
         ensures { Wrote self.old (byte ∷ []) self.new }

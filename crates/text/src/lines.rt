@@ -33,6 +33,7 @@ impl<'a> Text<'a> {
     }
 
     // A line for each of so many records.
+    // The whole log and its count of records, as the call left them.
     pub fn write_log(&mut self, log: &[u8], records: usize)
         requires records_in_bounds { entry_length * records ≤ length log.now }
         requires enough_room { record_line_limit * records ≤ room self.old }
@@ -44,6 +45,7 @@ impl<'a> Text<'a> {
     }
 
     // How a plan that has ended did so.
+    // By the byte and no End: a TryFrom would have one answer more, for bytes that no report has, and this is the only test.
     fn write_end_word(&mut self, end: u8)
         requires { end_word_limit ≤ room self.old }
         ensures { WroteWithin end_word_limit self.old (end_word (end_numbered end) ++ (space ∷ [])) self.new }
@@ -65,6 +67,7 @@ impl<'a> Text<'a> {
     }
 
     // The code is refusal + 256 × index.
+    // The number is C's: the listing hands on what tampermauve_run returned.
     pub fn write_refusal(&mut self, code: u32)
         requires { refusal_line_limit ≤ room self.old }
         ensures { WroteWithin refusal_line_limit self.old (refusal_line (code % 256) (code / 256)) self.new }

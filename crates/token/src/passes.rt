@@ -49,6 +49,7 @@ fn blocks(turns: &[u8], from: usize, can: &[bool; WORKERS_LIMIT]) -> usize
     ensures { Passed turns.now can.now from result }
 {
     let mut at = from;
+    // No `for`: the place where the blocks end is the answer.
     while let Some(block) = turns[at..].first_chunk::<BLOCK>() {
         if !idle(can, span(block)) {
             return at;

@@ -1,4 +1,4 @@
-// Bytes and two-byte words in lent slices. Numbers stand low byte first.
+// Bytes in lent slices, and numbers of two and four of them, low byte first.
 #![tactic(auto)]
 
 ghost use Rattle.std.specs.Prelude.{◌≡◌, ◌+◌, ◌≤◌, length, replicate};
@@ -13,6 +13,7 @@ pub fn word(low: u8, high: u8) -> u16
 }
 
 // The two-byte number at a place.
+// By a place and no array: a number of a log or a report stands at a place in it.
 pub fn word_at(bytes: &[u8], at: usize) -> u16
     requires { at + 2 ≤ length bytes.now }
     ensures { result ≡ word_at bytes.now at }
@@ -21,6 +22,7 @@ pub fn word_at(bytes: &[u8], at: usize) -> u16
 }
 
 // The four-byte number at a place.
+// Apart from word_at: one for both sizes would need a trait of ours over u16 and u32, for two bodies of one line.
 pub fn long_at(bytes: &[u8], at: usize) -> u32
     requires { at + 4 ≤ length bytes.now }
     ensures { result ≡ long_at bytes.now at }

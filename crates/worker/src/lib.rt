@@ -60,6 +60,7 @@ impl Worker {
     }
 
     // A worker's own step. A load's value is handed in; a store's is handed out.
+    // The parts and no Record: that is a type of crate plan, which this crate does not use.
     pub fn step(mut self, op: u8, register: u8, number: u16, loaded: u16) -> Moved<Option<u16>>
         requires { OwnStepping self op register number }
         ensures { OwnStepped self op register number loaded result }

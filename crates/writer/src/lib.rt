@@ -6,6 +6,7 @@ ghost use Rattle.writer.specs.Appended.{Appending, Appended};
 
 use journal::log::ENTRY_LENGTH;
 
+// No ghost field for Appending: it is room for one record more, which a writer has not behind the log's last.
 #[derive(Drop)]
 pub struct LogWriter<'a> {
     pub log: &'a mut [u8],
@@ -13,6 +14,7 @@ pub struct LogWriter<'a> {
 }
 
 // Writes a record behind those that the log has.
+// The log with its fill mark beside it: the paper's form, a covered function under the writer's append.
 fn append_at(log: &mut [u8], records: usize, entry: &[u8; ENTRY_LENGTH])
     requires { Appending log.old records }
     ensures { Appended log.old records entry.now (records + 1) log.new }

@@ -33,7 +33,7 @@ returns c =
     ran c.args.file.now c.args.turns.now (lent c.args.memory.now c.args.log.now c.args.report.now c.args.work.now) 0 _
     (acceptance c.args.file.now c.args.turns.now (lent c.args.memory.now c.args.log.now c.args.report.now c.args.work.now) _ admitted.verdict
     (left-same c.args.file.now c.args.turns.now c.args.memory.now c.perform.ensures {long = length worked}
-    (c.fill.ensures.after (λ y e. e)) (omega (arith, c.perform.auto, fit.work))))
+    c.clear.ensures (omega (arith, c.perform.auto, fit.work))))
     (λ z. sum_left c.args.file.now c.args.turns.now c.args.memory.now c.perform.ensures {long = length worked}
-    (c.fill.ensures.after (λ y e. e)) (omega (arith, c.perform.auto, fit.work))
+    c.clear.ensures (omega (arith, c.perform.auto, fit.work))
     (λ i. omega (arith, c.type_inv.memory i)) (omega (arith, c.perform.auto, fit.memory)))

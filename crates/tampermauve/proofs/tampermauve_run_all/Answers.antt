@@ -27,7 +27,7 @@ returns-then-accepted c =
     accepted-all c.args.count c.args.files.now c.args.lengths.now
     (batch c.args.memories.now c.args.logs.now c.args.reports.now c.args.answers.now c.args.work.now) none_here c.run_plans-accepted.ensures
     (omega (arith, c.run_plans-accepted.auto, fits))
-    (c.fill.ensures.after (λ y e. e)
+    (c.clear.ensures
     ∙ ap (λ (t : Bool). cond t (replicate (length c.run_plans-accepted.new.work) 0) c.run_plans-accepted.new.work) (sym c.if-accepted.true))
 
 pub returns-else-accepted : goal.returns-else-accepted
