@@ -143,7 +143,6 @@ meant() {
 * 255 the greatest byte
 queue 16 the base of a queue's digits
 worker 16 the bits of a register
-words 3 the place of the last of four bytes
 text 10 decimal digits
 END
 }

@@ -115,7 +115,8 @@ impl Engine {
         work: &[u8],
     ) -> Schedule
         requires { (t.away ≡ 0) × Syncing r w t sizes.now (kept_of self.old memory.old log.old work.now) }
-        ensures { Synced r w t sizes.now (kept_of self.old memory.old log.old work.now) result (kept_of self.new memory.new log.new work.now) }
+        ensures synced { Synced r w t sizes.now (kept_of self.old memory.old log.old work.now) result (kept_of self.new memory.new log.new work.now) }
+        ensures same_registers { self.new.registers ≡ self.old.registers }
     {
         let locks = self.held[w];
         let counts = t.counts;

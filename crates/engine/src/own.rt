@@ -25,6 +25,8 @@ impl Engine {
         requires { Turning file.now firsts.now turns.now from made (kept_own self.old memory.now work.old) }
         ensures turned { Turned file.now firsts.now turns.now from made (kept_own self.old memory.now work.old) result (kept_own self.new memory.now work.new) }
         ensures same_fates { self.new.fates ≡ self.old.fates }
+        ensures same_can { self.new.can ≡ self.old.can }
+        ensures same_held { self.new.held ≡ self.old.held }
     {
         let mut i = from;
         let mut moves = made;

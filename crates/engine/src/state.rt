@@ -26,7 +26,7 @@ pub struct Engine {
 
 impl Engine {
     // Worker w's private record.
-    pub fn worker(&self, w: usize) -> Worker
+    pub(crate) fn worker(&self, w: usize) -> Worker
         requires { w < workers_limit }
         ensures { result ≡ private_in self.now w }
     {

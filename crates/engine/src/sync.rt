@@ -1,4 +1,5 @@
 // One synchronising move of a worker that can move.
+ghost use Rattle.std.specs.Prelude.{◌≡◌};
 ghost use Rattle.engine.specs.Kept.{kept_of};
 ghost use Rattle.engine.specs.Moving.{Syncing, Synced};
 
@@ -22,7 +23,8 @@ impl Engine {
         work: &[u8],
     ) -> Schedule
         requires { Syncing r w t sizes.now (kept_of self.old memory.old log.old work.now) }
-        ensures { Synced r w t sizes.now (kept_of self.old memory.old log.old work.now) result (kept_of self.new memory.new log.new work.now) }
+        ensures synced { Synced r w t sizes.now (kept_of self.old memory.old log.old work.now) result (kept_of self.new memory.new log.new work.now) }
+        ensures same_registers { self.new.registers ≡ self.old.registers }
     {
         if 0 < t.away {
             let lists = t.lists;

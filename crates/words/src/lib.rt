@@ -21,13 +21,16 @@ pub fn word_at(bytes: &[u8], at: usize) -> u16
     word(bytes[at], bytes[at + 1])
 }
 
+// The last of four bytes.
+const LAST: usize = 3;
+
 // The four-byte number at a place.
 // Apart from word_at: one for both sizes would need a trait of ours over u16 and u32, for two bodies of one line.
 pub fn long_at(bytes: &[u8], at: usize) -> u32
     requires { at + 4 ≤ length bytes.now }
     ensures { result ≡ long_at bytes.now at }
 {
-    u32::from_le_bytes([bytes[at], bytes[at + 1], bytes[at + 2], bytes[at + 3]])
+    u32::from_le_bytes([bytes[at], bytes[at + 1], bytes[at + 2], bytes[at + LAST]])
 }
 
 // Sets every byte to 0.

@@ -32,13 +32,13 @@ sync-t-requires c =
 pub returns-then-is_empty : goal.returns-then-is_empty
 returns-then-is_empty c =
     let on = c.own-own.ensures in
-    ends-here c.requires (stands_on c.requires c.loop-i.invariant.so on.turned on.same_fates (rw c.in-Some.is at on.turned.stopped) c.sync-t.ensures)
+    ends-here c.requires (stands_on c.requires c.loop-i.invariant.so on.turned on.same_fates (rw c.in-Some.is at on.turned.stopped) c.sync-t.ensures.synced)
     c.is_empty.ensures c.if-is_empty.true
 
 pub onward-i-requires : goal.onward-i-requires
 onward-i-requires c =
     let on = c.own-own.ensures in
-    let stands = stands_on c.requires c.loop-i.invariant.so on.turned on.same_fates (rw c.in-Some.is at on.turned.stopped) c.sync-t.ensures in
+    let stands = stands_on c.requires c.loop-i.invariant.so on.turned on.same_fates (rw c.in-Some.is at on.turned.stopped) c.sync-t.ensures.synced in
     omega (arith, c.first.ensures, first_small c.requires stands (some_left c.sync-t.result.lists.list c.is_empty.ensures c.if-is_empty.false))
 
 pub loop-i-smaller-in-Some : goal.loop-i-smaller-in-Some
@@ -54,8 +54,8 @@ loop-i-smaller-in-Some c =
     (λ e.
     omega (
       arith,
-      rises-on c.requires so on.turned on.same_fates stop c.sync-t.ensures,
-      few-moves c.requires (stands_on c.requires so on.turned on.same_fates stop c.sync-t.ensures),
+      rises-on c.requires so on.turned on.same_fates stop c.sync-t.ensures.synced,
+      few-moves c.requires (stands_on c.requires so on.turned on.same_fates stop c.sync-t.ensures.synced),
       one_at_most turns can c.onward-i.result,
     ))
     (λ e. omega (arith, stop.0, on.turned.forward, c.onward-i.ensures.listed e))
@@ -63,7 +63,7 @@ loop-i-smaller-in-Some c =
 pub loop-i-preserved-in-Some : goal.loop-i-preserved-in-Some
 loop-i-preserved-in-Some c =
     let on = c.own-own.ensures in
-    goes_on c.requires (stands_on c.requires c.loop-i.invariant.so on.turned on.same_fates (rw c.in-Some.is at on.turned.stopped) c.sync-t.ensures)
+    goes_on c.requires (stands_on c.requires c.loop-i.invariant.so on.turned on.same_fates (rw c.in-Some.is at on.turned.stopped) c.sync-t.ensures.synced)
     c.onward-i.ensures
 
 pub loop-i-smaller : goal.loop-i-smaller

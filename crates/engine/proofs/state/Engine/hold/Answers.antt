@@ -1,7 +1,7 @@
 -- `hold`: the holder's step, from what its parts ensure.
 use Prim.Native.Nat.{ℕ}
 use native.Mathlib.Omega.{arith}
-use mathlib.Core.Path.{ap, ◌∙◌}
+use mathlib.Core.Path.{refl, ap, ◌∙◌}
 use Rattle.protocol.specs.Sum.{sum_of}
 use Rattle.worker.specs.Private.{held_as}
 use Rattle.worker.specs.declared.Moved.{Moved}
@@ -60,6 +60,8 @@ overflow_add-result c =
 
 pub returns : goal.returns
 returns c =
+    record {
+      synced =
     λ h.
     rw c.begun.ensures
     (shown h (c.decide-d.ensures _ (held-shown h.here)) c.requires.0
@@ -72,4 +74,6 @@ returns c =
     c.turn_over-round.new.can
     (rw c.head.ensures at c.turn_over-round.ensures)
     (omega arith)
-    (omega arith))
+    (omega arith));
+      same_registers = refl;
+    }
