@@ -168,7 +168,7 @@ impl Queue {
         self.kept(|w| entries[w as usize] != entry)
     }
 
-    // Each of these workers has the entry.
+    // Gives each of these workers the entry.
     pub fn set_all<T: Copy>(self, entries: &mut [T; WORKERS_LIMIT], entry: T)
         requires { Below workers_limit self }
         ensures { entries.new ≡ set_all entry self entries.old }
