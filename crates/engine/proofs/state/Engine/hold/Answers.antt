@@ -62,18 +62,18 @@ pub returns : goal.returns
 returns c =
     record {
       synced =
-    λ h.
-    rw c.begun.ensures
-    (shown h (c.decide-d.ensures _ (held-shown h.here)) c.requires.0
-    (ap (λ (q : Moved ℕ). q.worker) c.synchronise-stepped.ensures ∙ ap (λ (v : Worker). held_as v c.decide-d.result.held) c.worker.ensures)
-    c.settle_bytes-sum.ensures
-    (ap (λ (q : Moved ℕ). q.outcome) c.synchronise-stepped.ensures)
-    c.record_step-records.ensures.0
-    c.record_step-records.ensures.1
-    c.turn_over-round.result
-    c.turn_over-round.new.can
-    (rw c.head.ensures at c.turn_over-round.ensures)
-    (omega arith)
-    (omega arith));
+          λ h.
+          rw c.begun.ensures
+          (shown h (c.decide-d.ensures _ (held-shown h.here)) c.requires.0
+          (ap (λ (q : Moved ℕ). q.worker) c.synchronise-stepped.ensures ∙ ap (λ (v : Worker). held_as v c.decide-d.result.held) c.worker.ensures)
+          c.settle_bytes-sum.ensures
+          (ap (λ (q : Moved ℕ). q.outcome) c.synchronise-stepped.ensures)
+          c.record_step-records.ensures.0
+          c.record_step-records.ensures.1
+          c.turn_over-round.result
+          c.turn_over-round.new.can
+          (rw c.head.ensures at c.turn_over-round.ensures)
+          (omega arith)
+          (omega arith));
       same_registers = refl;
     }

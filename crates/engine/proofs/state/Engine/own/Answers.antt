@@ -27,7 +27,9 @@ loop-i-preserved-then-self-w c =
     sym c.synchronises.ensures in (
       moves-on c.loop-i.invariant.0 c.loop-i-test.true (λ fates log. c.if-self-w.true)
           (λ fates log. (c.fetch-r.ensures, rw c.worker.ensures at c.own_move-after.ensures)) (listed_here ∙ c.if-synchronises.false) (omega arith),
-      c.loop-i.invariant.1, c.loop-i.invariant.2, c.loop-i.invariant.3,
+      c.loop-i.invariant.1,
+      c.loop-i.invariant.2,
+      c.loop-i.invariant.3,
     )
 
 pub loop-i-preserved : goal.loop-i-preserved
