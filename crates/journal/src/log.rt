@@ -27,6 +27,7 @@ pub const ENTRIES_LIMIT: usize = WORKERS_LIMIT * (STEPS_LIMIT + 1);
 pub const LOG_LENGTH: usize = ENTRY_LENGTH * ENTRIES_LIMIT;
 
 // A record of the log but for its mark.
+// Apart from plan::decode::Record: other parts, a round and an outcome, and no register.
 #[derive(Clone, Copy)]
 pub struct Entry {
     pub round: u16,

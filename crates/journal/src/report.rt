@@ -71,6 +71,7 @@ fn fate_bytes(fates: &[u64; WORKERS_LIMIT], workers: u8) -> [u8; WORKERS_LIMIT]
 
 // Writes the report: end, number of workers, moving turns, rounds, log records, the eight fates, and the sum of shared memory's words.
 // `end` is a byte and no End: docs/PROMISES.md names this function, and `report_of` says what any byte gives.
+// Its six are the report's parts, each from another place: see ending::close_buffers.
 pub fn write_report(
     report: &mut [u8],
     end: u8,

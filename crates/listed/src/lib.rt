@@ -52,6 +52,7 @@ pub fn write_listing(file: &[u8], memory: &mut [u8], text: &mut [u8]) -> Written
 }
 
 // Prints a listing. Returns what tampermauve_check does, and leaves an accepted plan's memory, whether or not all of it could be printed.
+// A number and no Result: its clause says check_code.
 pub fn list(rt: &impl Print, file: &[u8], memory: &mut [u8]) -> u32
     requires { memory.old ≡ replicate memory_length 0 }
     ensures code { result ≡ check_code file.now }

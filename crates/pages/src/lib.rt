@@ -77,6 +77,7 @@ fn open_page(memory: &[u8], work: &mut [u8], copied: &mut [bool; SLOTS], p: usiz
     copied[slot] = true;
 }
 
+// Lent and WorkerHolds stay in clauses: Lent is of two slices that no struct holds, WorkerHolds says what a function did.
 fn store_byte(
     memory: &[u8],
     work: &mut [u8],

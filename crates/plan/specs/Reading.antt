@@ -2,7 +2,8 @@
 use Rattle.std.specs.Prelude.{ℕ, ◌-◌, ◌*◌, ◌<◌, ◌≤◌, Bool, false, ◌||◌, ◌≡◌, List, [], ◌∷◌, ltb, length, get_or}
 use Rattle.protocol.specs.Format as format
 use Rattle.protocol.specs.Refusals as protocol
-use Rattle.plan.specs.Answer.{record_of}
+use Rattle.plan.specs.Answer.{record_of, refused_as}
+use Rattle.plan.specs.declared.answer.Refused.{Refused}
 use Rattle.plan.specs.declared.barriers.Barriers.{Barriers}
 use Rattle.plan.specs.declared.decode.Record.{Record}
 
@@ -36,6 +37,13 @@ pub record HeadSoFar (file : List ℕ) (i : ℕ) (sizes : List ℕ) : Type 0 whe
   pub no_step : protocol.any_of format.is_step (before file i) ≡ false
   pub size : length sizes ≡ format.barrier_count
   pub right : (b : ℕ) → b < format.barrier_count → get_or sizes b 0 ≡ format.size_in (before file i) b
+
+-- the reading of the barrier records ends with the refusal of a record, and no sleep record stands before it
+pub record BarriersRefused (file : List ℕ) (count : ℕ) (e : Refused) : Type 0 where
+  pub least : 1 ≤ e.index
+  pub most : e.index < count
+  pub verdict : verdict_from file count 1 ≡ refused_as e
+  pub no_sleeper : protocol.any_of format.is_sleep (before file e.index) ≡ false
 
 -- the barrier records are read, and what is left of the check is the same behind them
 pub record BarriersRead (file : List ℕ) (count : ℕ) (r : Barriers) : Type 0 where

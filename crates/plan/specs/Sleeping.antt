@@ -4,7 +4,8 @@ use Rattle.protocol.specs.Format as format
 use Rattle.protocol.specs.Refusals as protocol
 use Rattle.protocol.specs.Rounds.{member}
 use Rattle.format.specs.Fates.{code_going, code_asleep}
-use Rattle.plan.specs.Answer.{record_of}
+use Rattle.plan.specs.Answer.{record_of, refused_as}
+use Rattle.plan.specs.declared.answer.Refused.{Refused}
 use Rattle.plan.specs.Reading.{file_record, before, verdict_from, RulesHold}
 use Rattle.plan.specs.declared.decode.Record.{Record}
 
@@ -41,6 +42,12 @@ pub record HeadRead (file : List ℕ) (count start next : ℕ) : Type 0 where
   -- a barrier record there would stand behind a sleep record
   pub no_barrier : next < count → format.is_barrier (file_record file next) ≡ true → protocol.any_of format.is_sleep (before file next) ≡ true
   pub no_sleep : next < count → format.is_sleep (file_record file next) ≡ false
+
+-- the reading of the sleep records ends with the refusal of a record
+pub record SleepersRefused (file : List ℕ) (count start : ℕ) (e : Refused) : Type 0 where
+  pub least : start ≤ e.index
+  pub most : e.index < count
+  pub verdict : verdict_from file count start ≡ refused_as e
 
 -- the sleep records are read, up to record `next`
 pub record SleepersRead (file : List ℕ) (count start next : ℕ) (fates : List ℕ) : Type 0 where

@@ -1,7 +1,6 @@
 // The barrier records.
 ghost use Rattle.std.specs.Prelude.{◌≡◌, ◌≤◌, length, MatchResult};
-ghost use Rattle.plan.specs.Answer.{refused_as};
-ghost use Rattle.plan.specs.Reading.{file_of, verdict_from, RulesHold, refuses_barrier, BarriersRead};
+ghost use Rattle.plan.specs.Reading.{file_of, RulesHold, refuses_barrier, BarriersRefused, BarriersRead};
 
 use crate::answer::{Refusal, Refused};
 use crate::decode::{Record, decode};
@@ -34,7 +33,7 @@ pub fn read_barriers(records: &[[u8; RECORD_LENGTH]]) -> Result<Barriers, Refuse
     requires some_records { 1 ≤ length records.now }
     requires rules_hold { RulesHold (file_of records.now) 1 }
     ensures { MatchResult result (λ b. BarriersRead (file_of records.now) (length records.now) b)
-        (λ e. verdict_from (file_of records.now) (length records.now) 1 ≡ refused_as e) }
+        (λ e. BarriersRefused (file_of records.now) (length records.now) e) }
 {
     let mut sizes = [0u8; BARRIER_COUNT];
     let mut low = 0u8;

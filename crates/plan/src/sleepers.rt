@@ -2,9 +2,8 @@
 ghost use Rattle.std.specs.Prelude.{◌≡◌, length, replicate, MatchResult};
 ghost use Rattle.protocol.specs.Format.{workers_limit};
 ghost use Rattle.format.specs.Fates.{code_going};
-ghost use Rattle.plan.specs.Answer.{refused_as};
-ghost use Rattle.plan.specs.Reading.{file_of, verdict_from};
-ghost use Rattle.plan.specs.Sleeping.{refuses_sleep, SleepersComing, SleepersRead};
+ghost use Rattle.plan.specs.Reading.{file_of};
+ghost use Rattle.plan.specs.Sleeping.{refuses_sleep, SleepersComing, SleepersRefused, SleepersRead};
 
 use crate::answer::{Refusal, Refused};
 use crate::decode::{Record, decode};
@@ -32,7 +31,7 @@ pub fn read_sleepers(
     requires sleepers_coming { SleepersComing (file_of records.now) (length records.now) n start }
     requires fates_value { fates.old ≡ replicate workers_limit code_going }
     ensures { MatchResult result (λ next. SleepersRead (file_of records.now) (length records.now) start next fates.new)
-        (λ e. verdict_from (file_of records.now) (length records.now) start ≡ refused_as e) }
+        (λ e. SleepersRefused (file_of records.now) (length records.now) start e) }
 {
     let mut low = 0u8;
     // By index: with enumerate and skip the loop's facts do not name the index, and its invariant stayed open.

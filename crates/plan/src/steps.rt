@@ -105,6 +105,7 @@ fn step_rule(
 // here; what stops the reading is left to the general rule.
 //
 // Within `read_steps` its loop would keep its numbers in memory: the check of the longest file takes 47,332 instructions in place of 39,799.
+// One caller has these six: a struct would be made for this call alone.
 #[inline(never)]
 fn read_stretch(
     records: &[[u8; RECORD_LENGTH]],

@@ -37,6 +37,7 @@ impl Model for Queue {
 }
 
 impl Queue {
+    // Apart from `one`: two constructors, of three numbers each.
     pub fn empty() -> Queue
         ensures { result ≡ [] }
     {

@@ -15,7 +15,7 @@ pub enum Fate {
 }
 
 impl Fate {
-    // A method and no From: docs/PROMISES.md names it so.
+    // A method and no From: a fate has two numbers, its code and the report's byte, and the name says which.
     pub fn code(self) -> u64
         ensures { result ≡ fate_code (fate_of self) }
     {

@@ -12,8 +12,14 @@ loop-i-init c = (omega arith, c.requires.some_records, barriers-first (file_of c
 
 pub returns-in_default : goal.returns-in_default
 returns-in_default c =
+    let inv = c.loop-i.invariant in
     rw c.at.ensures
-    (sym c.loop-i.invariant.3 ∙ verdict-step _ _ _ c.loop-i-test.true (unmarked-rule _ _ (decoded-at _ _ (sym c.decode.ensures ∙ c.in_default.is))))
+    (record {
+      least = inv.0;
+      most = c.loop-i-test.true;
+      verdict = sym inv.3 ∙ verdict-step _ _ _ c.loop-i-test.true (unmarked-rule _ _ (decoded-at _ _ (sym c.decode.ensures ∙ c.in_default.is)));
+      no_sleeper = inv.2.no_sleeper;
+    })
 
 pub returns-then-r-ne-BARRIER_RECORD : goal.returns-then-r-ne-BARRIER_RECORD
 returns-then-r-ne-BARRIER_RECORD c =
@@ -35,10 +41,16 @@ returns-then-bad_barrier c =
     let decoded_here : decoded_of (file_record (file_of c.args.records.now) c.loop-i.i) ≡ Some c.in-Some.r =
     decoded-at _ _ (sym c.decode.ensures ∙ c.in-Some.is) in
     rw c.at-then-bad_barrier.ensures
-    (sym inv.3
-    ∙ verdict-step _ _ _ c.loop-i-test.true
-    (barrier-rule inv.0 inv.2 decoded_here c.if-r-ne-BARRIER_RECORD.false
-    ∙ ap (λ (t : Bool). refuse_if t bad_barrier holds) (sym c.bad_barrier.ensures ∙ c.if-bad_barrier.true)))
+    (record {
+      least = inv.0;
+      most = c.loop-i-test.true;
+      verdict =
+          sym inv.3
+          ∙ verdict-step _ _ _ c.loop-i-test.true
+          (barrier-rule inv.0 inv.2 decoded_here c.if-r-ne-BARRIER_RECORD.false
+          ∙ ap (λ (t : Bool). refuse_if t bad_barrier holds) (sym c.bad_barrier.ensures ∙ c.if-bad_barrier.true));
+      no_sleeper = inv.2.no_sleeper;
+    })
 
 pub loop-i-preserved : goal.loop-i-preserved
 loop-i-preserved c =

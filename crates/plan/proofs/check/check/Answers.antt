@@ -35,7 +35,7 @@ pub returns-in_err-barriers : goal.returns-in_err-barriers
 returns-in_err-barriers c =
     let cut = cut_by (sym c.bad_length.ensures ∙ c.if-bad_length.false) c.as_chunks.ensures.front c.as_chunks.ensures.front_len in
     let taken = first_taken cut (sym c.decode.ensures ∙ c.in-Some.is) (sym c.bad_plan.ensures ∙ c.if-bad_plan.false) in
-    turned_down_by _ c.from_residual.ensures.1 (behind-first taken ∙ c.in_err-barriers.ensures)
+    turned_down_by _ c.from_residual.ensures.1 (behind-first taken ∙ c.in_err-barriers.ensures.verdict)
 
 pub read_sleepers-requires-clause-sleepers_coming : goal.read_sleepers-requires-clause-sleepers_coming
 read_sleepers-requires-clause-sleepers_coming c =
@@ -47,7 +47,7 @@ pub returns-in_err-next : goal.returns-in_err-next
 returns-in_err-next c =
     let cut = cut_by (sym c.bad_length.ensures ∙ c.if-bad_length.false) c.as_chunks.ensures.front c.as_chunks.ensures.front_len in
     let taken = first_taken cut (sym c.decode.ensures ∙ c.in-Some.is) (sym c.bad_plan.ensures ∙ c.if-bad_plan.false) in
-    turned_down_by _ c.from_residual-in_err-next.ensures.1 (behind-barriers taken c.in_ok-barriers.ensures ∙ c.in_err-next.ensures)
+    turned_down_by _ c.from_residual-in_err-next.ensures.1 (behind-barriers taken c.in_ok-barriers.ensures ∙ c.in_err-next.ensures.verdict)
 
 pub read_steps-requires-clause-steps_so_far : goal.read_steps-requires-clause-steps_so_far
 read_steps-requires-clause-steps_so_far c =

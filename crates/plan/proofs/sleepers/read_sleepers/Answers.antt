@@ -19,7 +19,13 @@ loop-i-init c = (
 pub returns-in_default : goal.returns-in_default
 returns-in_default c =
     rw c.at.ensures
-    (sym c.loop-i.invariant.1 ∙ verdict-step _ _ _ c.loop-i-test.true (unmarked-rule _ _ (decoded-at _ _ (sym c.decode.ensures ∙ c.in_default.is))))
+    (record {
+      least = c.loop-i.invariant.0.least;
+      most = c.loop-i-test.true;
+      verdict =
+          sym c.loop-i.invariant.1
+          ∙ verdict-step _ _ _ c.loop-i-test.true (unmarked-rule _ _ (decoded-at _ _ (sym c.decode.ensures ∙ c.in_default.is)));
+    })
 
 pub returns-then-r-ne-SLEEP_RECORD : goal.returns-then-r-ne-SLEEP_RECORD
 returns-then-r-ne-SLEEP_RECORD c =
@@ -40,10 +46,15 @@ returns-then-bad_sleep c =
     let decoded_here : decoded_of (file_record (file_of c.args.records.now) c.loop-i.i) ≡ Some c.in-Some.r =
     decoded-at _ _ (sym c.decode.ensures ∙ c.in-Some.is) in
     rw c.at-then-bad_sleep.ensures
-    (sym inv.1
-    ∙ verdict-step _ _ _ c.loop-i-test.true
-    (sleep-rule c.requires.sleepers_coming inv.0 decoded_here c.if-r-ne-SLEEP_RECORD.false
-    ∙ ap (λ (t : Bool). refuse_if t bad_sleep holds) (sym c.bad_sleep.ensures ∙ c.if-bad_sleep.true)))
+    (record {
+      least = inv.0.least;
+      most = c.loop-i-test.true;
+      verdict =
+          sym inv.1
+          ∙ verdict-step _ _ _ c.loop-i-test.true
+          (sleep-rule c.requires.sleepers_coming inv.0 decoded_here c.if-r-ne-SLEEP_RECORD.false
+          ∙ ap (λ (t : Bool). refuse_if t bad_sleep holds) (sym c.bad_sleep.ensures ∙ c.if-bad_sleep.true));
+    })
 
 pub loop-i-preserved : goal.loop-i-preserved
 loop-i-preserved c =
