@@ -224,6 +224,8 @@ conventions() {
     changed "an op without its name, as a case" crates/plan/src/steps.rt 's/ops::SLEEP_RECORD => /2 => /' 'an op, a fate or an outcome without its name' make test-conventions
     changed "a fate without its name" crates/decisions/src/fates.rt 's/^        fates\[w as usize\] = GOING/        fates[w as usize] = 0/' \
         'an op, a fate or an outcome without its name' make test-conventions
+    changed "a fate without its name, for a whole queue" crates/decisions/src/fates.rt 's/set_all(fates, GOING)/set_all(fates, 0)/' \
+        'an op, a fate or an outcome without its name' make test-conventions
     changed "an op that the header numbers otherwise" include/tampermauve.h 's/OP_WAIT 34u/OP_WAIT 43u/' "not the header's" make test-conventions
     changed "an op without a text" command/records.c '/TAMPERMAUVE_OP_EXIT, "exit"/d' 'has no text in command/records.c, or the other way round: OP_EXIT' make test-conventions
     changed "an op that the definitions number otherwise" crates/protocol/specs/Ops.antt 's/op_wait = 34/op_wait = 43/' "not the definitions'" make test-conventions

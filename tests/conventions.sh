@@ -180,7 +180,7 @@ complain "a number without a name" < <(
             }
         }' <<< "$code")
 complain "an op, a fate or an outcome without its name" < <(
-    grep <<< "$code" -E '\bop (==|!=|<|<=|>|>=) [0-9]|[0-9] (==|!=|<|<=|>|>=) (r\.)?op\b|\bop: [0-9]|outcome: [0-9]|fates\[[^]]*\] (=|==|!=) [0-9]|^[^:]*:[0-9]+: *([0-9]+ \| )*[0-9]+ (if .*)?=>')
+    grep <<< "$code" -E '\bop (==|!=|<|<=|>|>=) [0-9]|[0-9] (==|!=|<|<=|>|>=) (r\.)?op\b|\bop: [0-9]|outcome: [0-9]|fates\[[^]]*\] (=|==|!=) [0-9]|\bfates, [0-9]|^[^:]*:[0-9]+: *([0-9]+ \| )*[0-9]+ (if .*)?=>')
 
 # ---- one word and one number for each op, and for each limit of the format: in the code, the header and the definitions
 

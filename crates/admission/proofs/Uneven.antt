@@ -1,14 +1,16 @@
 -- The tests of a call with many plans, by the lengths of its buffers.
 use Prim.Native.Nat.{ℕ, ◌*◌, ◌≤◌}
-use mathlib.Core.Bool.{true, false, not}
+use mathlib.Core.Bool.{Bool, true, false, not}
 use mathlib.Core.Path.{◌≡◌, sym}
+use mathlib.Core.List.{List}
 use lib.Dec.{eqb}
 use borrow.Author.Tests.{le-ltb, eq-eqb}
-use Rattle.protocol.specs.Calls.{memory_length, log_length, report_length}
-use Rattle.protocol.specs.Batch.{plans_limit, length_bytes}
+use Rattle.protocol.specs.Refusals.{code_of}
+use Rattle.protocol.specs.Calls.{memory_length, log_length, report_length, work_length}
+use Rattle.protocol.specs.Batch.{plans_limit, length_bytes, begins_at, batch_by}
 use Rattle.protocol.proofs.Bools.{split}
 use Rattle.protocol.proofs.BatchDue.{EvenBy, even-by}
-use Rattle.admission.specs.Plans.{unevenly}
+use Rattle.admission.specs.Plans.{unevenly, batch_code}
 use Rattle.admission.specs.declared.batch.BatchLengths.{BatchLengths}
 
 abbrev pub Even : ℕ → BatchLengths → Type 0
@@ -27,3 +29,8 @@ pub last-test : (count : ℕ) (l : BatchLengths) → 1 ≤ count → count ≤ p
 last-test count l least most lengths memories logs reports =
     sym
     (simp (le-ltb count 1 least, le-ltb plans_limit count most, eq-eqb _ _ lengths, eq-eqb _ _ memories, eq-eqb _ _ logs, eq-eqb _ _ reports))
+
+-- the number for C by what the tests gave
+pub tests : (count : ℕ) (lengths : List ℕ) (l : BatchLengths) (w p s : Bool) → not (eqb l.work work_length) ≡ w → unevenly count l ≡ p
+    → not (eqb (begins_at lengths count) l.files) ≡ s → code_of (batch_by w p s) ≡ batch_code count lengths l
+tests count lengths l w p s ew ep es = rw (ew, ep, es)

@@ -1,4 +1,4 @@
--- The commit of a stretch of bytes: one stretch behind another, and a block in its place.
+-- The commit of a stretch of bytes: none, one stretch behind another, and a block in its place.
 use Prim.Native.Nat.{ℕ, ◌+◌, ◌-◌, ◌*◌, ◌/◌, ◌%◌, ◌<◌, ◌≤◌}
 use native.Mathlib.Omega.{arith}
 use native.Mathlib.Decide.{dec_lt}
@@ -15,6 +15,10 @@ use Rattle.protocol.specs.Sum.{sum_of}
 use Rattle.pages.proofs.Parts.{length-written, written_here, written_apart}
 use Rattle.commits.specs.Blocks.{block_size, block_words, left_of, BytesWritten, BlockWritten, BlockMoved}
 use Rattle.commits.proofs.Words.{chunk_at, block_same, block-moves}
+
+-- no byte at all
+pub written_none : (first at : ℕ) (work memory : List ℕ) → BytesWritten first at 0 work memory memory
+written_none first at work memory = record { here = λ i h. absurd (omega arith); elsewhere = λ j h. refl; size = refl }
 
 module _ (first at : ℕ) (work memory : List ℕ) where
   abbrev left : ℕ → ℕ → ℕ

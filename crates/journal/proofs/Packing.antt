@@ -1,10 +1,10 @@
--- What a record more makes of the log's bytes, and what a report written in three parts is.
+-- What a record more makes of the log's bytes, and zeros behind them; and what a report written in three parts is.
 use Prim.Native.Nat.{ℕ, ◌+◌, ◌-◌, ◌*◌, ◌/◌, ◌%◌, ◌≤◌}
 use mathlib.Core.Path.{◌≡◌, ap, sym, ◌∙◌}
 use mathlib.Core.List.{List, [], ◌∷◌, ◌++◌, append_assoc, append-nil}
 use native.Mathlib.Omega.{arith}
-use lib.ListN.{length, take, drop, length-append, drop_of_length-le}
-use borrow.Rule.Slice.PartMut.{put_mid}
+use lib.ListN.{length, take, drop, replicate, length-append, length-drop, drop_of_length-le}
+use borrow.Rule.Slice.PartMut.{mid_of, put_mid}
 use lib.Seq.{sets, sets-eq, take_at, drop_at, length-take-le}
 use Rattle.std.specs.Int.{to_le_bytes, w32}
 use Rattle.protocol.specs.Format.{workers_limit}
@@ -36,6 +36,17 @@ overwritten m front rest z k e h =
     rw (e, take_at front rest k h, drop_at front rest k h)
     (ap (λ (l : List ℕ). front ++ (z ++ l)) (drop_of_length-le rest {i = length (front ++ rest) - k} (let n = length-append front rest in omega arith))
     ∙ ap (λ (l : List ℕ). front ++ l) (append-nil z))
+
+-- zeros from a place on
+pub cleared : (l : List ℕ) (at : ℕ) → at ≤ length l
+    → put_mid at (length l - at) l (replicate (length (mid_of at (length l - at) l)) 0) ≡ take at l ++ replicate (length l - at) 0
+cleared l at h =
+    ap (λ (n : ℕ). take at l ++ (replicate n 0 ++ drop (length l - at) (drop at l))) whole
+    ∙ (ap (λ (r : List ℕ). take at l ++ (replicate (length l - at) 0 ++ r)) (drop_of_length-le (drop at l) {i = length l - at} (let e = length-drop at l in omega arith))
+    ∙ ap (λ (r : List ℕ). take at l ++ r) (append-nil (replicate (length l - at) 0)))
+  where
+    whole : length (take (length l - at) (drop at l)) ≡ length l - at
+    whole = length-take-le (length l - at) (drop at l) (let e = length-drop at l in omega arith)
 
 -- the sum's four bytes
 pub sum-bytes : (n : ℕ) → to_le_bytes w32 n ≡ four_bytes n

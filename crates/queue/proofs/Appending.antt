@@ -25,7 +25,7 @@ digits-below n m low high hl hh =
     omega (arith, pow-add 16 n m, mul-suc (16 ^ n) high)
 
 -- eight digits are below 2^32
-power_small : (n : ℕ) → n ≤ 8 → 16 ^ n ≤ 4294967296
+pub power_small : (n : ℕ) → n ≤ 8 → 16 ^ n ≤ 4294967296
 power_small n h = pow-le-pow_right {n = 16} (lit< tt) {i = n} {j = 8} h
 
 -- two queues, seen as lists that fit into one

@@ -2,12 +2,13 @@
 -- Assumes nothing.
 use Prim.Native.Nat.{ℕ, ◌+◌, ◌≤◌}
 use native.Mathlib.Omega.{arith}
-use mathlib.Core.Bool.{Bool, true, false, cond}
+use mathlib.Core.Bool.{Bool, true, false, cond, not, beq}
 use mathlib.Core.Path.{◌≡◌, refl, ap}
 use mathlib.Core.List.{List, [], ◌∷◌, ◌++◌, append_assoc}
 use lib.ListN.{length, length-append}
 use Rattle.protocol.specs.Format.{up_to}
 use Rattle.protocol.specs.Rounds.{keep}
+use Rattle.protocol.specs.Turns.{none_left}
 use Rattle.protocol.proofs.Lists.{length-count_from, up-to-more}
 
 -- keeping makes no list longer
@@ -29,6 +30,19 @@ keep-more t (w ∷ ws) v = go (t w) (keep-more t ws v)
         → cond b (w ∷ keep t (ws ++ (v ∷ []))) (keep t (ws ++ (v ∷ []))) ≡ cond b (w ∷ keep t ws) (keep t ws) ++ cond (t v) (v ∷ []) []
     go true e = ap (λ (us : List ℕ). w ∷ us) e
     go false e = e
+
+-- where nobody is left, nobody passes
+pub none_left_over : (t : ℕ → Bool) (ws : List ℕ) → none_left ws ≡ true → keep t ws ≡ []
+unfolding keep
+none_left_over t [] e = refl
+none_left_over t (w ∷ ws) e = cc
+
+-- a test or its opposite, by which of the two is wanted
+pub beq-cond : (b wanted : Bool) → beq b wanted ≡ cond wanted b (not b)
+beq-cond true true = refl
+beq-cond true false = refl
+beq-cond false true = refl
+beq-cond false false = refl
 
 -- of the workers counted off
 pub length-picked : (t : ℕ → Bool) (n : ℕ) → length (keep t (up_to n)) ≤ n

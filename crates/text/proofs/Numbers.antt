@@ -39,17 +39,18 @@ pub record-line : (e : Entry) (r w o n c : ℕ) → r ≡ e.round → w ≡ e.wo
 unfolding record_line
 record-line e r w o n c hr hw ho hn hc = cc
 
+-- the five numbers of a record
+pub five-length : (r w o n c : ℕ) → r < 65536 → w < 256 → o < 256 → n < 256 → c < 256 → length (line (r ∷ w ∷ o ∷ n ∷ c ∷ [])) ≤ record_line_limit
+five-length r w o n c hr hw ho hn hc =
+    one-longer 4 r _ 16 (omega arith)
+    (one-longer 2 w _ 12 (omega arith)
+    (one-longer 2 o _ 8 (omega arith) (one-longer 2 n _ 4 (omega arith) (one-longer 2 c _ 0 (omega arith) none-long))))
+
 pub record-length : (log : List ℕ) (position : ℕ) → ((k : ℕ) → get_or log k 0 < 256) → length (record_line (entry_at log position)) ≤ record_line_limit
 unfolding record_line
 record-length log position byte =
     let round : word_at log (position + entry_round) < 65536 = omega (arith, byte (position + entry_round), byte (position + entry_round + 1)) in
-    let worker = byte (position + entry_worker) in
-    let op = byte (position + entry_op) in
-    let number = byte (position + entry_number) in
-    let outcome = byte (position + entry_outcome) in
-    one-longer 4 _ _ 16 (omega (arith, round))
-    (one-longer 2 _ _ 12 (omega (arith, worker))
-    (one-longer 2 _ _ 8 (omega (arith, op)) (one-longer 2 _ _ 4 (omega (arith, number)) (one-longer 2 _ _ 0 (omega (arith, outcome)) none-long))))
+    five-length _ _ _ _ _ round (byte (position + entry_worker)) (byte (position + entry_op)) (byte (position + entry_number)) (byte (position + entry_outcome))
 
 -- the last line, by its parts
 pub end_line-line : (e : End) (m n : ℕ) → m ≡ n → (end_word e ++ (space ∷ [])) ++ line (m ∷ []) ≡ end_line e n

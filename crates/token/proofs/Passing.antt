@@ -15,7 +15,7 @@ use Rattle.std.proofs.lemmas.List.Sums.{AllPass-from_list_all}
 use Rattle.token.specs.Passes.{Passed, NamesWorkers, Spanned}
 
 -- where none of the workers from least to most can move, each of them cannot
-each-idle : (can : List Bool) (least most w : ℕ) → most < length can → list_all not (take (most + 1 - least) (drop least can)) ≡ true
+pub each-idle : (can : List Bool) (least most w : ℕ) → most < length can → list_all not (take (most + 1 - least) (drop least can)) ≡ true
     → least ≤ w → w ≤ most → get_or can w false ≡ false
 each-idle can least most w h e low high =
     let workers = take (most + 1 - least) (drop least can) in
@@ -23,6 +23,18 @@ each-idle can least most w h e low high =
     let idle = not-true _ (All-get_or (λ able. not able ≡ true) workers (w - least) false inside (AllPass-from_list_all not workers e)) in
     let i : least + (w - least) ≡ w = omega arith in
     rw (get_or-take (most + 1 - least) (drop least can) (w - least) false (omega arith), get_or-drop least can (w - least) false, i) at idle
+
+-- one stretch of turns that pass behind another
+pub passed-join : {turns : List ℕ} {can : List Bool} {from mid to : ℕ} → Passed turns can from mid → Passed turns can mid to → Passed turns can from to
+passed-join {mid = mid} p q =
+    record {
+      onward = omega (arith, p.onward, q.onward);
+      within = q.within;
+      idle = λ i low high. elim (dec_lt i mid) [
+        | yes h ↦ p.idle i low h
+        | no h ↦ q.idle i (omega arith) high
+      ];
+    }
 
 -- the turns from a place on, and a block at their front
 abbrev pub Front : List ℕ → ℕ → List ℕ → Type 0

@@ -12,7 +12,7 @@ arrived_can first away w can =
 unfoldable pub raised : List ℕ → List Bool → List Bool
 raised = set_all true
 
--- the next round, with its list; the list behind it is empty
+-- the next round begins: the next list is its list, and none of those in it has arrived
 pub record NewRound (next : List ℕ) (h rounds : ℕ) (can : List Bool) (r : Round) (can' : List Bool) : Type 0 where
   pub here : r.begun ≡ Some next
   pub behind : r.away ≡ length next

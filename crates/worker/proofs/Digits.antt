@@ -1,7 +1,10 @@
 -- A register's digit, taken out and put in by shifts. Assumes nothing.
-use Rattle.std.proofs.Common.{◌≡◌, ℕ, ◌+◌, ◌-◌, ◌*◌, ◌%◌, ◌^◌, ◌<◌, ◌≤◌, [], ◌∷◌, set, arith}
+use Rattle.std.proofs.Common.{◌≡◌, ℕ, ◌+◌, ◌-◌, ◌*◌, ◌%◌, ◌^◌, ◌<◌, ◌≤◌, [], ◌∷◌, get_or, set, refl, arith}
 use Rattle.protocol.proofs.Each.{each}
 use Rattle.worker.specs.Digits.{digit, digits, number_back}
+
+pub digit_at : (n r : ℕ) → r < 4 → digit n r ≡ get_or (digits n) r 0
+digit_at n r l = each (λ k. digit n k ≡ get_or (digits n) k 0) 0 3 refl refl refl refl r (omega arith) (omega arith)
 
 -- a digit in its place, as a shift makes it
 abbrev pub shifted : ℕ → ℕ → ℕ
