@@ -1,8 +1,10 @@
 // The check of a plan file.
-ghost use Rattle.std.specs.Prelude.{◌≡◌};
+ghost use Rattle.std.specs.Prelude.{◌≡◌, replicate};
+ghost use Rattle.protocol.specs.Format.{workers_limit};
 ghost use Rattle.protocol.specs.Refusals.{wrong_length, wrong_plan};
 ghost use Rattle.plan.specs.Answer.{record_of};
-ghost use Rattle.plan.specs.Checking.{CheckedAs};
+ghost use Rattle.format.specs.Fates.{code_going};
+ghost use Rattle.plan.specs.Checking.{whole, CheckedAs};
 
 use crate::answer::{Refusal, Refused};
 use crate::barriers::read_barriers;
@@ -18,10 +20,17 @@ use format::ops;
 // at first.
 #[derive(Clone, Copy)]
 pub struct Layout {
+    pub firsts: [usize; WORKERS_LIMIT + 1],
     pub workers: u8,
     pub sizes: [u8; BARRIER_COUNT],
-    pub firsts: [usize; WORKERS_LIMIT + 1],
     pub fates: [u64; WORKERS_LIMIT],
+}
+
+// The parts of a layout that are no longer than a register or two.
+#[derive(Clone, Copy)]
+struct Head {
+    workers: u8,
+    sizes: [u8; BARRIER_COUNT],
 }
 
 fn bad_length(bytes: usize) -> bool
@@ -41,9 +50,14 @@ fn bad_plan(r: Record) -> bool
         || r.number != 0
 }
 
-// The layout of a file that is accepted.
-pub fn check(file: &[u8]) -> Result<Layout, Refused>
-    ensures { CheckedAs file.now result }
+// Reads a file: where each worker's steps begin and the codes of the fates at first go into the two arrays, the rest is the answer.
+fn read_parts(
+    file: &[u8],
+    firsts: &mut [usize; WORKERS_LIMIT + 1],
+    fates: &mut [u64; WORKERS_LIMIT],
+) -> Result<Head, Refused>
+    requires { fates.old ≡ replicate workers_limit code_going }
+    ensures { CheckedAs file.now (whole result firsts.new fates.new) }
 {
     let bytes = file.len();
     if bad_length(bytes) {
@@ -58,15 +72,28 @@ pub fn check(file: &[u8]) -> Result<Layout, Refused>
     }
     let barriers = read_barriers(records)?;
     let sizes = barriers.sizes;
-    // It is filled in its place: arrays that are copied into it would stall on the bytes just written.
-    let mut layout = Layout {
+    let next = read_sleepers(records, first.worker, barriers.next, fates)?;
+    read_steps(records, first.worker, &sizes, next, firsts)?;
+    check_skips(records, firsts)?;
+    Ok(Head {
         workers: first.worker,
         sizes,
-        firsts: [0usize; WORKERS_LIMIT + 1],
-        fates: [GOING; WORKERS_LIMIT],
-    };
-    let next = read_sleepers(records, first.worker, barriers.next, &mut layout.fates)?;
-    read_steps(records, first.worker, &sizes, next, &mut layout.firsts)?;
-    check_skips(records, &layout.firsts)?;
-    Ok(layout)
+    })
+}
+
+// The layout of a file that is accepted. It is put into its callers, and its arrays go into the layout one by one: a layout that a call
+// hands back whole is so long that the compiler copies it by memcpy, which the archive would need besides.
+#[inline(always)]
+pub fn check(file: &[u8]) -> Result<Layout, Refused>
+    ensures { CheckedAs file.now result }
+{
+    let mut firsts = [0usize; WORKERS_LIMIT + 1];
+    let mut fates = [GOING; WORKERS_LIMIT];
+    let Head { workers, sizes } = read_parts(file, &mut firsts, &mut fates)?;
+    Ok(Layout {
+        firsts,
+        workers,
+        sizes,
+        fates,
+    })
 }
