@@ -38,11 +38,13 @@ pub record HeadSoFar (file : List ℕ) (i : ℕ) (sizes : List ℕ) : Type 0 whe
   pub size : length sizes ≡ format.barrier_count
   pub right : (b : ℕ) → b < format.barrier_count → get_or sizes b 0 ≡ format.size_in (before file i) b
 
--- the reading of the barrier records ends with the refusal of a record, and no sleep record stands before it
+-- the reading of the barrier records ends with the refusal of a record: those before it are no steps and no sleep records, and give the sizes
 pub record BarriersRefused (file : List ℕ) (count : ℕ) (e : Refused) : Type 0 where
   pub least : 1 ≤ e.index
   pub most : e.index < count
   pub verdict : verdict_from file count 1 ≡ refused_as e
+  pub sizes : List ℕ
+  pub head : HeadSoFar file e.index sizes
   pub no_sleeper : protocol.any_of format.is_sleep (before file e.index) ≡ false
 
 -- the barrier records are read, and what is left of the check is the same behind them

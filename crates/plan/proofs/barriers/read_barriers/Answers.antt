@@ -18,6 +18,8 @@ returns-in_default c =
       least = inv.0;
       most = c.loop-i-test.true;
       verdict = sym inv.3 ∙ verdict-step _ _ _ c.loop-i-test.true (unmarked-rule _ _ (decoded-at _ _ (sym c.decode.ensures ∙ c.in_default.is)));
+      sizes = c.loop-i.sizes;
+      head = inv.2.so_far;
       no_sleeper = inv.2.no_sleeper;
     })
 
@@ -49,6 +51,8 @@ returns-then-bad_barrier c =
           ∙ verdict-step _ _ _ c.loop-i-test.true
           (barrier-rule inv.0 inv.2 decoded_here c.if-r-ne-BARRIER_RECORD.false
           ∙ ap (λ (t : Bool). refuse_if t bad_barrier holds) (sym c.bad_barrier.ensures ∙ c.if-bad_barrier.true));
+      sizes = c.loop-i.sizes;
+      head = inv.2.so_far;
       no_sleeper = inv.2.no_sleeper;
     })
 
