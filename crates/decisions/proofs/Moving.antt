@@ -10,8 +10,8 @@ use Rattle.protocol.proofs.Counting.{clash}
 use Rattle.queue.specs.List.{Below}
 use Rattle.queue.proofs.Laws.{member-first, member-one}
 use Rattle.rules.specs.declared.ruling.Moves.{Moves}
-use Rattle.rules.specs.declared.ruling.Moves.TheVariants.{Nobody, Wakes, Joins, Starts}
-use Rattle.rules.specs.Rules.{woken_of, joined_of, moved_of}
+use Rattle.rules.specs.declared.ruling.Moves.TheVariants.{Wakes, Starts}
+use Rattle.rules.specs.Rules.{moved_of}
 use Rattle.rules.proofs.Found.{keep_same, member-keep}
 
 pub keep_all : (ws : List ℕ) → without [] ws ≡ ws
@@ -35,29 +35,8 @@ without-other w ws n =
 
 -- one whom a ruling moves
 module _ {n w : ℕ} {moves : Moves} where
-  pub woken-below : moves ≡ Wakes w → Below n (woken_of moves) → w < n
-  woken-below e b = (rw e at b) w (member-first w [])
-
-  pub started-below : moves ≡ Starts w → Below n (joined_of moves) → w < n
-  started-below e b = (rw e at b) w (member-first w [])
-
   pub woken-moved : moves ≡ Wakes w → Below n (moved_of moves) → w < n
   woken-moved e b = (rw e at b) w (member-first w [])
 
   pub started-moved : moves ≡ Starts w → Below n (moved_of moves) → w < n
   started-moved e b = (rw e at b) w (member-first w [])
-
--- the two parts of those whom it moves
-pub woken-part : {n : ℕ} (moves : Moves) → Below n (moved_of moves) → Below n (woken_of moves)
-unfolding member
-woken-part Nobody b = b
-woken-part (Wakes w) b = b
-woken-part (Joins ws) b = λ w m. cc
-woken-part (Starts w) b = λ w m. cc
-
-pub joined-part : {n : ℕ} (moves : Moves) → Below n (moved_of moves) → Below n (joined_of moves)
-unfolding member
-joined-part Nobody b = b
-joined-part (Wakes w) b = λ w m. cc
-joined-part (Joins ws) b = b
-joined-part (Starts w) b = b

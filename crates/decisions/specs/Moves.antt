@@ -6,7 +6,7 @@ use Rattle.protocol.specs.Rounds.{stays_in, joins_next, joins_waiting, member, w
 use Rattle.queue.specs.List.{Below}
 use Rattle.decisions.specs.declared.lists.Lists.{Lists}
 use Rattle.rules.specs.declared.ruling.Moves.{Moves}
-use Rattle.rules.specs.declared.ruling.Moves.TheVariants.{Joins, Starts}
+use Rattle.rules.specs.declared.ruling.Moves.TheVariants.{Wakes, Joins, Starts}
 use Rattle.rules.specs.Rules.{found, woken_of, moved_of}
 
 -- the list of a round, whose first is the holder, with room for a woken worker
@@ -14,7 +14,7 @@ pub record Relisting (list : List ℕ) (moves : Moves) (h : ℕ) : Type 0 where
   pub holder : h < 16
   pub held : 0 < length list
   pub fits : length list + length (woken_of moves) ≤ workers_limit
-  pub below : Below workers_limit (woken_of moves)
+  pub woken : (w : ℕ) → moves ≡ Wakes w → w < 16
 
 -- those who join the next list are those who wait with the key as their fate's code, and a sleeper that is started does not wait
 pub record Parting (waiting : List ℕ) (moves : Moves) (fates : List ℕ) (code : ℕ) : Type 0 where
@@ -28,7 +28,9 @@ pub record ListsMoving (lists : Lists) (moves : Moves) (h : ℕ) (fates : List �
   pub held : 0 < length lists.list
   pub total : length lists.list + length lists.next + length lists.waiting ≤ workers_limit
   pub room : length lists.list + length lists.next + length (moved_of moves) ≤ workers_limit
-  pub moved : Below workers_limit (moved_of moves)
+  -- a worker that is woken or started is a digit, as all of a queue are
+  pub woken : (w : ℕ) → moves ≡ Wakes w → w < 16
+  pub started : (w : ℕ) → moves ≡ Starts w → w < 16
   pub leaving : Parting lists.waiting moves fates code
 
 -- the lists after a ruling, as `apply` has them

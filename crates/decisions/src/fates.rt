@@ -11,8 +11,8 @@ use format::fates::GOING;
 use format::limits::WORKERS_LIMIT;
 use rules::ruling::{Goes, Moves, Ruling};
 
-// The code of the holder's fate.
-pub(crate) fn code_after(goes: Goes) -> u64
+// The code of the holder's fate after its step.
+pub fn code_after(goes: Goes) -> u64
     ensures { result ≡ fate_code (fate_after (goes_of goes)) }
 {
     match goes {
@@ -34,7 +34,7 @@ fn free_moved(fates: &mut [u64; WORKERS_LIMIT], moves: Moves)
 }
 
 // Those whom the step moves wait or sleep no more, and the holder h has its new fate.
-pub(crate) fn settle_fates(fates: &mut [u64; WORKERS_LIMIT], r: &Ruling, h: usize)
+pub fn settle_fates(fates: &mut [u64; WORKERS_LIMIT], r: &Ruling, h: usize)
     requires { (h < workers_limit) × Below workers_limit (moved_of r.now.moves) }
     ensures { (locks : List ℕ) → FatesSettled fates.old (ruling_of r.now locks) h fates.new }
 {

@@ -2,8 +2,8 @@
 ghost use Rattle.std.specs.Prelude.{◌≡◌, List, ◌++◌, ℕ, ◌+◌, ◌<◌, length, drop};
 ghost use Rattle.protocol.specs.Format.{workers_limit};
 ghost use Rattle.protocol.specs.Rounds.{stays_in, joins_next, joins_waiting, without};
-ghost use Rattle.queue.specs.List.{Below};
 ghost use Rattle.rules.specs.Codes.{goes_of};
+ghost use Rattle.rules.specs.declared.ruling.Moves.TheVariants.{Starts};
 ghost use Rattle.rules.specs.Rules.{woken_of, joined_of, moved_of, ruling_of};
 ghost use Rattle.decisions.specs.Moves.{Relisting, Parting, ListsMoving, ListsMoved};
 
@@ -20,8 +20,8 @@ pub struct Lists {
     pub waiting: Queue,
 }
 
-// The woken worker in front, and before it the holder, if it keeps the token.
-fn list_after(list: Queue, moves: Moves, goes: Goes, h: u64) -> Queue
+// This round's list after the step: the woken worker in front, and before it the holder, if it keeps the token.
+pub fn list_after(list: Queue, moves: Moves, goes: Goes, h: u64) -> Queue
     requires { Relisting list moves h }
     ensures { result ≡ stays_in (goes_of goes) h ++ (woken_of moves ++ drop 1 list) }
 {
@@ -36,9 +36,9 @@ fn list_after(list: Queue, moves: Moves, goes: Goes, h: u64) -> Queue
     }
 }
 
-// Those who join it behind, and last the holder, if it gives up the token.
-fn next_after(next: Queue, moves: Moves, goes: Goes, h: u64) -> Queue
-    requires { (length next + length (joined_of moves) < workers_limit) × Below workers_limit (joined_of moves) × (h < 16) }
+// The next round's list after the step: those who join it behind, and last the holder, if it gives up the token.
+pub fn next_after(next: Queue, moves: Moves, goes: Goes, h: u64) -> Queue
+    requires { (length next + length (joined_of moves) < workers_limit) × ((w : ℕ) → moves ≡ Starts w → w < 16) × (h < 16) }
     ensures { result ≡ next ++ (joined_of moves ++ joins_next (goes_of goes) h) }
 {
     let joined = match moves {

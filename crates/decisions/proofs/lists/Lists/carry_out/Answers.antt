@@ -3,7 +3,6 @@ use mathlib.Core.Bool.{not}
 use Rattle.protocol.specs.Rounds.{member}
 use Rattle.queue.proofs.Picked.{length-keep}
 use Rattle.rules.specs.Rules.{woken_of, joined_of, moved_of}
-use Rattle.decisions.proofs.Moving.{woken-part, joined-part}
 use Rattle.decisions.proofs.lists.Lists.carry_out.Goals as goal
 
 pub list_after-requires : goal.list_after-requires
@@ -13,13 +12,13 @@ list_after-requires c =
       holder = omega (arith, c.requires.holder);
       held = c.requires.held;
       fits = omega (arith, c.requires.room, length-append (woken_of m) (joined_of m));
-      below = woken-part m c.requires.moved;
+      woken = c.requires.woken;
     }
 
 pub next_after-requires : goal.next_after-requires
 next_after-requires c =
     let m = c.args.r.now.moves in
-    (omega (arith, c.requires.room, c.requires.held, length-append (woken_of m) (joined_of m)), joined-part m c.requires.moved, omega (arith, c.requires.holder))
+    (omega (arith, c.requires.room, c.requires.held, length-append (woken_of m) (joined_of m)), c.requires.started, omega (arith, c.requires.holder))
 
 pub wait_last-requires : goal.wait_last-requires
 wait_last-requires c = (
