@@ -1,6 +1,6 @@
 #!/usr/bin/env bash
-# Holds the archive to what is said of it: it defines the three calls and nothing else, it needs nothing but memset, memcpy and
-# memmove, which each C library has, and its proof relies on no axiom: on no function that is written in C.
+# Holds the archive to what is said of it: it defines the three calls and nothing else, it needs nothing but memset, which each C library
+# has, and its proof relies on no axiom: on no function that is written in C.
 #
 #     tests/archive.sh ARCHIVE LOG      LOG is what rt printed when it built the archive, and then the archive's checksum
 set -u -o pipefail
@@ -19,9 +19,7 @@ beyond() { # LINES LINES
 calls='T tampermauve_check
 T tampermauve_run
 T tampermauve_run_all'
-of_c='memcpy
-memmove
-memset'
+of_c=memset
 symbols=$(nm "$archive") || fail "$archive cannot be read"
 defined=$(awk 'NF == 3 && $2 ~ /[A-TV-Zuvw]/ { print $2, $3 }' <<<"$symbols")
 needed=$(awk 'NF == 2 && $1 ~ /^[A-Za-z]$/ { print $2 }' <<<"$symbols")

@@ -141,7 +141,17 @@ right_archive() {
     mv "$work/right/libtampermauve.a" "$archive" && touch "$archive" || exit 2
 }
 
+# The archive with a further object in it, which needs memcpy.
+archive_with_memcpy() {
+    cp -p "$archive" "$work/right/"
+    printf '#include <string.h>\nstatic void copy(char *a, const char *b, size_t n) { memcpy(a, b, n); }\nstatic void (*kept)(char *, const char *, size_t) __attribute__((used)) = copy;\n' |
+        gcc -std=c99 -O1 -w -x c -c - -o "$work/copies.o" && ar rs "$archive" "$work/copies.o" 2>/dev/null || exit 2
+}
+
 archives() {
+    archive_with_memcpy
+    fails "an archive that needs memcpy" 'it needs besides: memcpy' tests/archive.sh "$archive" "$archive_log"
+    right_archive
     wrong_archive
     fails "a wrong archive beside the simulator" 'a small call with a difference' make test-differential
     fails "a wrong archive on the kept inputs" 'the library differs from the simulator' make test-fuzz

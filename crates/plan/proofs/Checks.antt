@@ -19,7 +19,6 @@ use Rattle.plan.specs.declared.barriers.Barriers.{Barriers}
 use Rattle.plan.specs.declared.answer.Refused.{Refused}
 use Rattle.std.specs.Prelude.{Some, Result, Err, IsErrAnd}
 use Rattle.plan.specs.declared.check.Head.{Head}
-use Rattle.plan.specs.declared.check.Layout.{Layout}
 use Rattle.plan.proofs.Recorded.{decoded-at, file_of-chunks}
 use Rattle.plan.proofs.Readings.{Body, verdict-step, workers-same, told, rules-first}
 use Rattle.protocol.proofs.Accepted.{length-right}

@@ -21,12 +21,13 @@ use format::ops;
 #[derive(Clone, Copy)]
 pub struct Layout {
     pub firsts: [usize; WORKERS_LIMIT + 1],
+    // Between the arrays: side by side the compiler copies the two as one, by memcpy.
     pub workers: u8,
     pub sizes: [u8; BARRIER_COUNT],
     pub fates: [u64; WORKERS_LIMIT],
 }
 
-// The parts of a layout that are no longer than a register or two.
+// The short parts of a layout.
 #[derive(Clone, Copy)]
 struct Head {
     workers: u8,

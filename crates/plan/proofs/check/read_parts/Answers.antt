@@ -62,7 +62,8 @@ returns-in_err-read_steps c =
     let rs = c.as_chunks.result.0.now in
     let refused : StepsRead (file_of rs) (length rs) c.in_ok-barriers.barriers.sizes c.in_ok-next.next (Err c.in_err-read_steps.field-0.0)
     c.read_steps.new.firsts = c.in_err-read_steps.ensures in
-    turned_down_by c.from_residual-in_err-read_steps.result _ _ _ c.from_residual-in_err-read_steps.ensures.1 (behind-sleepers taken c.in_ok-barriers.ensures c.in_ok-next.ensures ∙ sym refused.verdict)
+    turned_down_by c.from_residual-in_err-read_steps.result _ _ _ c.from_residual-in_err-read_steps.ensures.1
+    (behind-sleepers taken c.in_ok-barriers.ensures c.in_ok-next.ensures ∙ sym refused.verdict)
 
 pub returns-in_err-check_skips : goal.returns-in_err-check_skips
 returns-in_err-check_skips c =
