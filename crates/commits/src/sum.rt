@@ -10,6 +10,9 @@ pub struct Block;
 
 impl Block {
     pub const SIZE: usize = 64;
+
+    // of two bytes each
+    pub const WORDS: usize = Block::SIZE / 2;
 }
 
 // The sum of a block's words. 32 bits throughout, so that the loop becomes vector code of four lanes.

@@ -115,11 +115,11 @@ static ROWS: [Row; ROW_COUNT] = [
     },
 ];
 
-// The rows, in the order of the definitions' table.
-pub fn rows() -> [Row; ROW_COUNT]
-    ensures { result ≡ limits }
+// The rows, in the order of the definitions' table. They are lent, so that `row_of` can lend one of them.
+pub fn rows() -> &'static [Row; ROW_COUNT]
+    ensures { result.now ≡ limits }
 {
-    ROWS
+    &ROWS
 }
 
 // The place of an op's row, if the op has one.
@@ -139,5 +139,5 @@ pub fn row_of(op: u8) -> Option<&'static Row>
     ensures { option_copied result ≡ limits_for op }
 {
     let at = place(op)?;
-    Some(&ROWS[at])
+    Some(&rows()[at])
 }

@@ -5,8 +5,8 @@ ghost use Rattle.journal.specs.Bytes.{entry_as};
 
 use format::limits::{STEPS_LIMIT, WORKERS_LIMIT};
 
-// The mark 4D 4C as one number.
-const LOG_MARK: u16 = 0x4C4D;
+// The mark 4D 4C as one number, as wide as a record.
+pub const LOG_MARK: u64 = 0x4C4D;
 
 pub const ENTRY_LENGTH: usize = 8;
 

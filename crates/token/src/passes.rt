@@ -9,9 +9,9 @@ use format::limits::WORKERS_LIMIT;
 // A block of turns names no worker below the least and none above the most. Whether it names these two is left open: a wider
 // range would cost time, and no turn that moves would be passed over.
 #[derive(Clone, Copy)]
-struct Range {
-    least: u8,
-    most: u8,
+pub struct Range {
+    pub least: u8,
+    pub most: u8,
 }
 
 // Turns looked at together.

@@ -53,8 +53,8 @@ impl Worker {
     {
         match op {
             ops::LOAD => loaded,
-            ops::ADD => value.wrapping_add(self.registers.get(number as u8)),
-            ops::SUBTRACT => value.wrapping_sub(self.registers.get(number as u8)),
+            ops::ADD => value.wrapping_add(self.register(number as u8)),
+            ops::SUBTRACT => value.wrapping_sub(self.register(number as u8)),
             _ => number,
         }
     }
@@ -65,7 +65,8 @@ impl Worker {
         requires { OwnStepping self op register number }
         ensures { OwnStepped self op register number loaded result }
     {
-        let value = self.registers.get(register);
+        // by a reference: copied whole, the worker would count as moved
+        let value = (&self).register(register);
         self.place += 1;
         match op {
             ops::STORE => Moved {
