@@ -53,7 +53,8 @@ pub fn broadcast(
     ensures { (locks : List ℕ) → Shows held locks
         → CarriedOut lists fates.old (broadcast_rule (found fates.old lists.waiting (condition_code condition)) locks) h result fates.new }
 {
-    let roused = rouse(lists.waiting, fates, Fate::OnCondition(condition).code());
+    let code = Fate::OnCondition(u64::from(condition)).code();
+    let roused = rouse(lists.waiting, fates, code);
     fates[h] = GOING;
     let woken = roused.woken;
     let waiting = roused.left;

@@ -37,7 +37,7 @@ pub fn decide(
         return broadcast(number, h, held, lists, fates);
     }
     let ruling = rule(op, number, held, sizes, lists.waiting, fates);
-    let code = Fate::AtBarrier(number).code();
+    let code = Fate::AtBarrier(u64::from(number)).code();
     let after = lists.carry_out(&ruling, h as u64, fates, code);
     settle_fates(fates, &ruling, h);
     // Three of the ruling's five parts: a struct of the three would be taken apart here and built anew by the broadcast.

@@ -4,7 +4,7 @@ ghost use Rattle.protocol.specs.Format.{workers_limit};
 ghost use Rattle.protocol.specs.Rounds.{fate_after};
 ghost use Rattle.queue.specs.List.{Below, set_all};
 ghost use Rattle.rules.specs.Codes.{fate_code, goes_of};
-ghost use Rattle.rules.specs.Rules.{moved_of, ruling_of};
+ghost use Rattle.rules.specs.Rules.{moved_of, ruling_of, Coded};
 ghost use Rattle.decisions.specs.Fates.{FatesSettled};
 
 use format::fates::GOING;
@@ -13,6 +13,7 @@ use rules::ruling::{Goes, Moves, Ruling};
 
 // The code of the holder's fate after its step.
 pub fn code_after(goes: Goes) -> u64
+    requires { Coded goes }
     ensures { result ≡ fate_code (fate_after (goes_of goes)) }
 {
     match goes {
@@ -35,7 +36,7 @@ fn free_moved(fates: &mut [u64; WORKERS_LIMIT], moves: Moves)
 
 // Those whom the step moves wait or sleep no more, and the holder h has its new fate.
 pub fn settle_fates(fates: &mut [u64; WORKERS_LIMIT], r: &Ruling, h: usize)
-    requires { (h < workers_limit) × Below workers_limit (moved_of r.now.moves) }
+    requires { (h < workers_limit) × Coded r.now.goes × Below workers_limit (moved_of r.now.moves) }
     ensures { (locks : List ℕ) → FatesSettled fates.old (ruling_of r.now locks) h fates.new }
 {
     free_moved(fates, r.moves);

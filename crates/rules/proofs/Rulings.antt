@@ -104,6 +104,7 @@ module _ {op number held : ℕ} {locks sizes waiting fates : List ℕ} {r : Ruli
         after = _;
         shown = m.shown locks s;
         same = λ plan queue fate named met at fit target. m.same locks s ∙ by plan queue fate named met at fit target;
+        coded = m.coded;
         sound = sound;
       }
 
@@ -141,5 +142,6 @@ module _ {op number held : ℕ} {locks sizes waiting fates : List ℕ} {r : Ruli
         after = locks;
         shown = shows_by s m.kept;
         same = λ plan queue fate named met at fit target. rw e (m.same (fate number) (target e) locks);
+        coded = m.coded;
         sound = subst⁻¹ (λ (k : ℕ). Coherent number k waiting fates r.moves) called m.sound;
       }

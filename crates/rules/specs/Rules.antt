@@ -1,11 +1,11 @@
 -- What a ruling of the code stands for, and what `rule` takes and ensures.
-use Rattle.std.specs.Prelude.{ℕ, ◌+◌, ◌≤◌, ◌<◌, true, false, cond, ◌≡◌, List, [], ◌∷◌, ◌++◌, eqb, length, get_or}
+use Rattle.std.specs.Prelude.{ℕ, ◌+◌, ◌^◌, ◌≤◌, ◌<◌, true, false, cond, ◌≡◌, List, [], ◌∷◌, ◌++◌, eqb, length, get_or}
 use Rattle.protocol.specs.Ops.{op_signal, op_broadcast, op_barrier, op_start}
 use Rattle.protocol.specs.Format.{workers_limit, barrier_count, lock_limit, synchronises, by_name, Plan}
 use Rattle.protocol.specs.Steps as steps
 use Rattle.protocol.specs.Steps.{QueueName, on_condition, at_barrier}
 use Rattle.protocol.specs.Rounds as rounds
-use Rattle.protocol.specs.Rounds.{keep, member, commits_at_zero, gives_at_zero, start_rule, rule_of, outcome_none}
+use Rattle.protocol.specs.Rounds.{keep, member, fate_after, commits_at_zero, gives_at_zero, start_rule, rule_of, outcome_none}
 use Rattle.format.specs.Fates.{code_asleep}
 use Rattle.locks.specs.Set.{Shows, Held}
 use Rattle.queue.specs.List.{Below}
@@ -47,9 +47,14 @@ commit_alone held = record { bytes = Committed; held = held; goes = Keeps; moves
 abbrev pub found : List ℕ → List ℕ → ℕ → List ℕ
 found fates waiting code = keep (λ w. eqb (get_or fates w 0) code) waiting
 
+-- the code of the holder's fate is a number of 64 bits
+abbrev pub Coded : Goes → Type 0
+Coded goes = fate_code (fate_after (goes_of goes)) < 2 ^ 64
+
 -- where a holder of this number of locks goes that gives up the token with count 0
-abbrev pub AtZero : ℕ → Goes → Type 0
-AtZero held goes = (locks : List ℕ) → Shows held locks → goes_of goes ≡ gives_at_zero (length locks)
+pub record AtZero (held : ℕ) (goes : Goes) : Type 0 where
+  pub same : (locks : List ℕ) → Shows held locks → goes_of goes ≡ gives_at_zero (length locks)
+  pub coded : Coded goes
 
 -- what becomes of the copies of a holder that commits with count 0
 abbrev pub Commits : ℕ → Uncommitted → Type 0
@@ -75,11 +80,13 @@ pub record Coherent (number called : ℕ) (waiting fates : List ℕ) (moves : Mo
 pub record Means (held : ℕ) (r : Ruling) (rule : List ℕ → rounds.Ruling) : Type 0 where
   pub same : (locks : List ℕ) → Shows held locks → ruling_of r (rule locks).held ≡ rule locks
   pub shown : (locks : List ℕ) → Shows held locks → Shows r.held (rule locks).held
+  pub coded : Coded r.goes
 
 -- a ruling of the code is that of a start of this worker, whatever fate it is that its code shows
 pub record Started (target held : ℕ) (waiting fates : List ℕ) (r : Ruling) : Type 0 where
   pub same : (f : steps.Fate) → get_or fates target 0 ≡ fate_code f → (locks : List ℕ) → ruling_of r locks ≡ start_rule target f locks
   pub kept : r.held ≡ held
+  pub coded : Coded r.goes
   pub sound : Coherent target (sleepers_at fates target) waiting fates r.moves
 
 -- those who wait with this code as their fate, asked for by a barrier of this size: nobody, where all who wait are too few for it
@@ -120,4 +127,5 @@ pub record Ruled (op number : ℕ) (locks sizes : List ℕ) (waiting fates : Lis
   pub after : List ℕ
   pub shown : Shows r.held after
   pub same : RuledBy op number locks sizes waiting fates (ruling_of r after)
+  pub coded : Coded r.goes
   pub sound : Coherent number (called_by op number fates) waiting fates r.moves

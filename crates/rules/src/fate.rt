@@ -1,5 +1,5 @@
-// A worker's fate. It is kept as its code, by which those who wait are found.
-ghost use Rattle.std.specs.Prelude.{◌≡◌};
+// A worker's fate. It is kept as its code, by which those who wait are found: every number of 64 bits is the code of one.
+ghost use Rattle.std.specs.Prelude.{◌≡◌, ◌<◌, ◌^◌};
 ghost use Rattle.rules.specs.Codes.{fate_code, fate_of};
 
 use format::fates::{ASLEEP, AT_BARRIER, EXITED, FAILED, GOING, ON_CONDITION};
@@ -10,13 +10,14 @@ pub enum Fate {
     Exited,
     Failed,
     Asleep,
-    OnCondition(u16),
-    AtBarrier(u16),
+    OnCondition(u64),
+    AtBarrier(u64),
 }
 
 impl Fate {
     // A method and no From: a fate has two numbers, its code and the report's byte, and the name says which.
     pub fn code(self) -> u64
+        requires { fate_code (fate_of self) < 2 ^ 64 }
         ensures { result ≡ fate_code (fate_of self) }
     {
         match self {
@@ -24,8 +25,8 @@ impl Fate {
             Fate::Exited => EXITED,
             Fate::Failed => FAILED,
             Fate::Asleep => ASLEEP,
-            Fate::OnCondition(c) => ON_CONDITION + 2 * (c as u64),
-            Fate::AtBarrier(b) => AT_BARRIER + 2 * (b as u64),
+            Fate::OnCondition(c) => ON_CONDITION + 2 * c,
+            Fate::AtBarrier(b) => AT_BARRIER + 2 * b,
         }
     }
 }

@@ -152,7 +152,7 @@ fn wait(condition: u16, held: u64) -> Ruling
         return failed(held);
     }
     Ruling {
-        goes: Goes::Leaves(Fate::OnCondition(condition)),
+        goes: Goes::Leaves(Fate::OnCondition(u64::from(condition))),
         ..committed(held)
     }
 }
@@ -164,7 +164,7 @@ fn signal(condition: u16, held: u64, waiting: Queue, fates: &[u64; WORKERS_LIMIT
     ensures sound { Coherent condition 0 waiting fates.now result.moves }
 {
     let goes = gives_at_zero(held);
-    let queued = waiting.select(fates, Fate::OnCondition(condition).code());
+    let queued = waiting.select(fates, Fate::OnCondition(u64::from(condition)).code());
     if queued.is_empty() {
         return Ruling {
             goes,
@@ -188,7 +188,7 @@ fn met(b: u16, size: u8, waiting: Queue, fates: &[u64; WORKERS_LIMIT]) -> Queue
     if waiting.count() + 1 < size as u64 {
         return Queue::empty();
     }
-    waiting.select(fates, Fate::AtBarrier(b).code())
+    waiting.select(fates, Fate::AtBarrier(u64::from(b)).code())
 }
 
 fn barrier(b: u16, size: u8, held: u64, waiting: Queue, fates: &[u64; WORKERS_LIMIT]) -> Ruling
@@ -202,7 +202,7 @@ fn barrier(b: u16, size: u8, held: u64, waiting: Queue, fates: &[u64; WORKERS_LI
     let queued = met(b, size, waiting, fates);
     if queued.count() + 1 < size as u64 {
         return Ruling {
-            goes: Goes::Leaves(Fate::AtBarrier(b)),
+            goes: Goes::Leaves(Fate::AtBarrier(u64::from(b))),
             outcome: OUTCOME_QUEUED,
             ..committed(held)
         };

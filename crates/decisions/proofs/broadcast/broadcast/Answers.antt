@@ -26,7 +26,7 @@ cons-requires c =
 
 pub returns : goal.returns
 returns c = λ locks z.
-    let roused = rw c.code.ensures at c.rouse-roused.ensures in
+    let roused = rw (c.code-code.ensures, c.from.ensures) at c.rouse-roused.ensures in
     elim c.if-held-eq0.branch [
       | then-held-eq0 w ↦
           rw (w.after-is, w.push.ensures, c.append-behind.ensures, c.rest.ensures, c.count-outcome.ensures.value)

@@ -28,7 +28,7 @@ carry_out-after-requires c =
       room = omega (arith, c.requires.total, sound.few);
       woken = λ w e. omega (arith, woken-moved e sound.below);
       started = λ w e. omega (arith, started-moved e sound.below);
-      leaving = record { below = asked.below; all = λ ws e. rw c.code-code.ensures (sound.all ws e); away = sound.away };
+      leaving = record { below = asked.below; all = λ ws e. rw (c.code-code.ensures, c.from.ensures) (sound.all ws e); away = sound.away };
     }
 
 pub returns : goal.returns

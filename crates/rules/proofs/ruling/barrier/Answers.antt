@@ -7,6 +7,7 @@ pub returns-then-held-ne0-clause-means : goal.returns-then-held-ne0-clause-means
 returns-then-held-ne0-clause-means c = record {
   same = λ locks s. rw (held_some locks s c.if-held-ne0.true) (c.failed.ensures.means.same locks s);
   shown = λ locks s. rw (held_some locks s c.if-held-ne0.true) (c.failed.ensures.means.shown locks s);
+  coded = c.failed.ensures.means.coded;
 }
 
 pub returns-then-held-ne0-clause-sound : goal.returns-then-held-ne0-clause-sound
@@ -17,8 +18,9 @@ returns-then-count-size-clause-means c =
     let fewer = met-few c.met-queued.ensures (omega (arith, c.count.ensures.value, c.if-count-size.true)) in
     rw c.committed.ensures
     record {
-      same = λ locks s. rw (held_none locks s c.if-held-ne0.false, fewer);
+      same = λ locks s. rw (held_none locks s c.if-held-ne0.false, fewer, c.from.ensures);
       shown = λ locks s. rw (held_none locks s c.if-held-ne0.false, fewer) s;
+      coded = omega (arith, c.from.ensures, c.ranges.b.fits);
     }
 
 pub returns-then-count-size-clause-sound : goal.returns-then-count-size-clause-sound

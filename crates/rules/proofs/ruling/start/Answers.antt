@@ -1,4 +1,4 @@
-use Rattle.std.proofs.Common.{refl}
+use Rattle.std.proofs.Common.{arith, refl}
 use Rattle.rules.proofs.Rulings.{calm, starts_none, starts-one, start-coherent}
 use Rattle.rules.proofs.ruling.start.Goals as goal
 
@@ -8,6 +8,7 @@ returns-then-fates-target-ne-ASLEEP c =
     record {
       same = λ f e locks. starts_none c.args.fates.now c.args.target locks f e c.if-fates-target-ne-ASLEEP.true;
       kept = refl;
+      coded = omega arith;
       sound = calm refl;
     }
 
@@ -17,5 +18,6 @@ returns c =
     record {
       same = λ f e locks. starts-one c.args.fates.now c.args.target locks f e c.if-fates-target-ne-ASLEEP.false;
       kept = refl;
+      coded = omega arith;
       sound = start-coherent c.requires c.if-fates-target-ne-ASLEEP.false;
     }
