@@ -13,8 +13,8 @@
  *   - Every input of these types is answered. A wrong length or wrong content is refused by number, never a fault.
  *   - A refusal changes no byte of any buffer. Among many plans, one that is refused has no byte of its memory, log and report
  *     changed.
- *   - A call uses less than TAMPERMAUVE_STACK_LIMIT bytes of the caller's stack (`make test-stack` measures it: some 680 for a
- *     check, 1,460 for a run and 1,900 for a run of many plans).
+ *   - A call uses less than TAMPERMAUVE_STACK_LIMIT bytes of the caller's stack (`make test-stack` measures it: some 360 for a
+ *     check, 1,680 for a run and 2,160 for a run of many plans).
  */
 #ifndef TAMPERMAUVE_H
 #define TAMPERMAUVE_H
