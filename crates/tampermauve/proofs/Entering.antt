@@ -18,9 +18,11 @@ use Rattle.protocol.proofs.Covered.{any_none}
 use Rattle.protocol.proofs.FirstDue.{fitting}
 use Rattle.plan.specs.Checking.{LaidOut}
 use Rattle.plan.specs.declared.check.Layout.{Layout}
+use Rattle.plan.specs.declared.answer.Refused.{Refused}
+use Rattle.admission.specs.declared.run.Lengths.{Lengths}
 use Rattle.engine.specs.Moving.{Laid}
 use Rattle.admission.specs.Run.{lengths_of, Admits}
-use Rattle.std.specs.Prelude.{Ok}
+use Rattle.std.specs.Prelude.{Result, Ok}
 use Rattle.tampermauve.specs.Run.{Performing}
 use Rattle.admission.proofs.Admitting.{plan-workers}
 use Rattle.tampermauve.proofs.Ran.{Cleared, passed}
@@ -31,6 +33,11 @@ turn_below n turns i e h = leb-false n (get_or turns i 0) (any_none (λ w. leb n
 
 pub laid_out : {file : List ℕ} {l : Layout} → LaidOut file l → check file ≡ accepted → Laid file l.sizes l.firsts
 laid_out l ok = record { ok = ok; sizes_right = l.sizes; firsts_right = l.firsts }
+
+-- what is admitted by lengths, where they are those of the buffers
+pub by-lengths : {file turns : List ℕ} {l : Lengths} (b : Buffers) {a : Result Layout Refused} → l.memory ≡ length b.memory → l.log ≡ length b.log
+    → l.report ≡ length b.report → l.work ≡ length b.work → Admits file turns l a → Admits file turns (lengths_of b) a
+by-lengths b memory log report work h = record { verdict = rw (sym memory, sym log, sym report, sym work) h.verdict; layout = h.layout }
 
 module _ (file turns : List ℕ) (b : Buffers) (l : Layout) (h : Admits file turns (lengths_of b) (Ok l)) where
   tested : Cleared (misfit b) (ltb turns_limit (length turns)) (check file) (names_nobody (workers_of (plan_of file)) turns)
