@@ -19,6 +19,7 @@ use Rattle.plan.specs.declared.barriers.Barriers.{Barriers}
 use Rattle.plan.specs.declared.answer.Refused.{Refused}
 use Rattle.std.specs.Prelude.{Some, Result, Err, IsErrAnd}
 use Rattle.plan.specs.declared.check.Head.{Head}
+use Rattle.plan.specs.declared.check.Layout.{Layout}
 use Rattle.plan.proofs.Recorded.{decoded-at, file_of-chunks}
 use Rattle.plan.proofs.Readings.{Body, verdict-step, workers-same, told, rules-first}
 use Rattle.protocol.proofs.Accepted.{length-right}
@@ -160,7 +161,11 @@ module _ {file : List ℕ} {rs : List (List ℕ)} {first : Body} (taken : FirstT
 pub turned_down : {file : List ℕ} {e : Refused} → protocol.check file ≡ refused_as e → CheckedAs file (Err e)
 turned_down bad = record { verdict = sym bad; layout = tt }
 
--- at the exit of a `?`
-pub turned_down_by : {file : List ℕ} (r : Result Head Refused) (firsts fates : List ℕ) (e : Refused) → IsErrAnd r (λ y. y ≡ e) → protocol.check file ≡ refused_as e
-    → CheckedAs file (whole r firsts fates)
-turned_down_by r _ _ e out bad = let p = err_from_is_err_and r out in rw (p.1, p.2) (turned_down bad)
+-- at the exit of a `?`, of an answer that is the layout itself
+pub turned_down_by : {file : List ℕ} {r : Result Layout Refused} (e : Refused) → IsErrAnd r (λ y. y ≡ e) → protocol.check file ≡ refused_as e → CheckedAs file r
+turned_down_by {r = r} e out bad = let p = err_from_is_err_and r out in rw (p.1, p.2) (turned_down bad)
+
+-- and of one that `read_parts` gives, with the two arrays beside it
+pub whole_turned_down_by : {file : List ℕ} (r : Result Head Refused) (firsts fates : List ℕ) (e : Refused) → IsErrAnd r (λ y. y ≡ e)
+    → protocol.check file ≡ refused_as e → CheckedAs file (whole r firsts fates)
+whole_turned_down_by r _ _ e out bad = let p = err_from_is_err_and r out in rw (p.1, p.2) (turned_down bad)

@@ -1,4 +1,4 @@
--- A fate from its code: no other fate has that code.
+-- A fate from its code: no other fate has that code, and every number is the code of one.
 -- Assumes nothing.
 use Prim.Native.Nat.{ℕ, ◌+◌, ◌*◌, ◌-◌, ◌/◌, ◌%◌}
 use native.Mathlib.Omega.{arith}
@@ -33,6 +33,11 @@ fate-code (waiting (at_barrier b)) =
 -- so a code tells its fate
 pub code-tells : (f g : Fate) → fate_code f ≡ fate_code g → f ≡ g
 code-tells f g e = sym (fate-code f) ∙ (ap fate_from e ∙ fate-code g)
+
+-- and every number is the code of a fate
+pub code-fate : (k : ℕ) → fate_code (fate_from k) ≡ k
+unfolding fate_from
+code-fate k = grind arith
 
 -- who waits, by the code
 pub code-waits : (k : ℕ) → is_waiting (fate_from k) ≡ not (ltb k code_on_condition)

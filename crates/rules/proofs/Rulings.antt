@@ -1,6 +1,6 @@
--- The laws of the rules: each branch of the code as the definitions have it.
+-- The laws of the rules: each branch of the code as the definitions have it, and how great the number in a ruling's fate is.
 -- Assumes nothing.
-use Prim.Native.Nat.{ℕ}
+use Prim.Native.Nat.{ℕ, ◌≤◌}
 use native.Mathlib.Omega.{arith}
 use borrow.Author.Tests.{eq-eqb, ne_eqb}
 use mathlib.Core.Bool.{Bool, true, false, true≢false}
@@ -10,10 +10,11 @@ use lib.Dec.{eqb}
 use lib.ListN.{length, get_or}
 use Rattle.protocol.specs.Ops.{op_signal, op_broadcast, op_barrier, op_start}
 use Rattle.protocol.specs.Rounds as rounds
-use Rattle.protocol.specs.Format.{by_name}
+use Rattle.protocol.specs.Format.{by_name, Plan}
 use Rattle.protocol.specs.Rounds.{member, committed, keeps, lock_rule, unlock_rule, wait_rule, signal_rule}
-use Rattle.protocol.specs.Rounds.{broadcast_rule, barrier_rule, start_rule, exit_rule, rule_of}
-use Rattle.protocol.specs.Steps.{Fate}
+use Rattle.protocol.specs.Rounds.{broadcast_rule, barrier_rule, start_rule, exit_rule, rule_of, fate_after}
+use Rattle.protocol.specs.Steps as steps
+use Rattle.protocol.specs.Steps.{QueueName, Fate}
 use Rattle.protocol.specs.Turns.{none_left}
 use Rattle.format.specs.Fates.{code_asleep}
 use Rattle.locks.specs.Set.{Shows}
@@ -24,9 +25,10 @@ use Rattle.locks.proofs.Sets.{empty-same, shows_by}
 use Rattle.rules.specs.declared.ruling.Moves.{Moves}
 use Rattle.rules.specs.declared.ruling.Moves.TheVariants.{Nobody, Wakes, Starts}
 use Rattle.rules.specs.declared.ruling.Ruling.{Ruling}
-use Rattle.rules.specs.Codes.{fate_code, condition_code, barrier_code, sync_of}
+use Rattle.rules.specs.Codes.{fate_code, condition_code, barrier_code, goes_of, sync_of}
 use Rattle.rules.specs.Rules.{found, sleepers_at, called_by, Coherent, Means, Starting, Started, RuledBy, Ruled}
 use Rattle.rules.proofs.Codes.{code-asleep}
+use Rattle.rules.proofs.Fates.{fate_from, code-fate}
 use Rattle.rules.proofs.Found.{one-below, below-keep}
 
 -- a ruling that moves nobody but the holder
@@ -145,3 +147,20 @@ module _ {op number held : ℕ} {locks sizes waiting fates : List ℕ} {r : Ruli
         coded = m.coded;
         sound = subst⁻¹ (λ (k : ℕ). Coherent number k waiting fates r.moves) called m.sound;
       }
+
+-- the code of the holder's fate after a rule is at most that of who waits at the barrier of the step's number: so the fate's number is at most
+-- the step's
+pub rule-within : (plan : Plan) (queue : QueueName → List ℕ) (fate : ℕ → Fate) (held : List ℕ) (op number : ℕ)
+    → fate_code (fate_after (rule_of plan queue fate held (sync_of op number)).goes) ≤ barrier_code number
+unfolding rule_of sync_of
+rule-within plan queue fate held op number = grind arith
+
+-- and so it is after a ruling of the code
+pub fate-within : {op number : ℕ} {locks sizes waiting fates : List ℕ} {r : Ruling} → Ruled op number locks sizes waiting fates r
+    → fate_code (fate_after (goes_of r.goes)) ≤ barrier_code number
+fate-within {op} {number} {locks} {sizes} {waiting} {fates} ruled =
+    let plan : Plan = record { steps = []; sizes = sizes; sleepers = []; locks = by_name } in
+    let queue : QueueName → List ℕ = λ q. found fates waiting (fate_code (steps.waiting q)) in
+    let fate : ℕ → Fate = λ w. fate_from (get_or fates w 0) in
+    let same = ruled.same plan queue fate refl (λ _ _. refl) (λ _. refl) (λ _. refl) (λ _. sym (code-fate (get_or fates number 0))) in
+    rw (ap (λ (x : rounds.Ruling). x.goes) same) (rule-within plan queue fate locks op number)

@@ -5,7 +5,7 @@ use Rattle.plan.specs.Stepping.{StepsRead}
 use Rattle.plan.proofs.Recorded.{decoded-at}
 use Rattle.plan.proofs.Readings.{unmarked-rule}
 use Rattle.plan.proofs.Checks.{cut_by, first_taken, by_length, by_first, plan-rule, rules-begun, behind-first, behind-barriers, sleepers-coming}
-use Rattle.plan.proofs.Checks.{behind-sleepers, steps-so-far, laid_out, turned_down, turned_down_by}
+use Rattle.plan.proofs.Checks.{behind-sleepers, steps-so-far, laid_out, turned_down, whole_turned_down_by}
 use Rattle.plan.proofs.check.read_parts.Goals as goal
 
 pub returns-then-bad_length : goal.returns-then-bad_length
@@ -35,7 +35,7 @@ pub returns-in_err-barriers : goal.returns-in_err-barriers
 returns-in_err-barriers c =
     let cut = cut_by (sym c.bad_length.ensures ∙ c.if-bad_length.false) c.as_chunks.ensures.front c.as_chunks.ensures.front_len in
     let taken = first_taken cut (sym c.decode.ensures ∙ c.in-Some.is) (sym c.bad_plan.ensures ∙ c.if-bad_plan.false) in
-    turned_down_by c.from_residual.result _ _ _ c.from_residual.ensures.1 (behind-first taken ∙ c.in_err-barriers.ensures.verdict)
+    whole_turned_down_by c.from_residual.result _ _ _ c.from_residual.ensures.1 (behind-first taken ∙ c.in_err-barriers.ensures.verdict)
 
 pub read_sleepers-requires-clause-sleepers_coming : goal.read_sleepers-requires-clause-sleepers_coming
 read_sleepers-requires-clause-sleepers_coming c =
@@ -47,7 +47,7 @@ pub returns-in_err-next : goal.returns-in_err-next
 returns-in_err-next c =
     let cut = cut_by (sym c.bad_length.ensures ∙ c.if-bad_length.false) c.as_chunks.ensures.front c.as_chunks.ensures.front_len in
     let taken = first_taken cut (sym c.decode.ensures ∙ c.in-Some.is) (sym c.bad_plan.ensures ∙ c.if-bad_plan.false) in
-    turned_down_by c.from_residual-in_err-next.result _ _ _ c.from_residual-in_err-next.ensures.1 (behind-barriers taken c.in_ok-barriers.ensures ∙ c.in_err-next.ensures.verdict)
+    whole_turned_down_by c.from_residual-in_err-next.result _ _ _ c.from_residual-in_err-next.ensures.1 (behind-barriers taken c.in_ok-barriers.ensures ∙ c.in_err-next.ensures.verdict)
 
 pub read_steps-requires-clause-steps_so_far : goal.read_steps-requires-clause-steps_so_far
 read_steps-requires-clause-steps_so_far c =
@@ -62,7 +62,7 @@ returns-in_err-read_steps c =
     let rs = c.as_chunks.result.0.now in
     let refused : StepsRead (file_of rs) (length rs) c.in_ok-barriers.barriers.sizes c.in_ok-next.next (Err c.in_err-read_steps.field-0.0)
     c.read_steps.new.firsts = c.in_err-read_steps.ensures in
-    turned_down_by c.from_residual-in_err-read_steps.result _ _ _ c.from_residual-in_err-read_steps.ensures.1
+    whole_turned_down_by c.from_residual-in_err-read_steps.result _ _ _ c.from_residual-in_err-read_steps.ensures.1
     (behind-sleepers taken c.in_ok-barriers.ensures c.in_ok-next.ensures ∙ sym refused.verdict)
 
 pub returns-in_err-check_skips : goal.returns-in_err-check_skips
@@ -72,7 +72,7 @@ returns-in_err-check_skips c =
     let rs = c.as_chunks.result.0.now in
     let steps : StepsRead (file_of rs) (length rs) c.in_ok-barriers.barriers.sizes c.in_ok-next.next (Ok tt) c.read_steps.new.firsts
     = c.in_ok-read_steps.ensures in
-    turned_down_by c.from_residual-in_err-check_skips.result _ _ _ c.from_residual-in_err-check_skips.ensures.1
+    whole_turned_down_by c.from_residual-in_err-check_skips.result _ _ _ c.from_residual-in_err-check_skips.ensures.1
     (behind-sleepers taken c.in_ok-barriers.ensures c.in_ok-next.ensures ∙ (sym steps.verdict ∙ sym c.in_err-check_skips.ensures))
 
 pub returns : goal.returns
