@@ -168,4 +168,4 @@ turned_down_by {r = r} e out bad = let p = err_from_is_err_and r out in rw (p.1,
 -- and of one that `read_parts` gives, with the two arrays beside it
 pub whole_turned_down_by : {file : List ℕ} (r : Result Head Refused) (firsts fates : List ℕ) (e : Refused) → IsErrAnd r (λ y. y ≡ e)
     → protocol.check file ≡ refused_as e → CheckedAs file (whole r firsts fates)
-whole_turned_down_by r _ _ e out bad = let p = err_from_is_err_and r out in rw (p.1, p.2) (turned_down bad)
+whole_turned_down_by r _ _ e out bad = let p = err_from_is_err_and r out in turned_down_by e (rw p.1 p.2) bad
