@@ -226,13 +226,13 @@ conventions() {
         'a number without a name: crates/plan/src/check.rt:' make test-conventions
     changed "a number in an impl" crates/queue/src/lib.rt 's/entries\[w as usize\] == entry)/entries[w as usize] == 5)/' \
         'a number without a name: crates/queue/src/lib.rt:' make test-conventions
-    changed "a number at a range's end" crates/plan/src/check.rt 's/^    bytes == 0 ||/    for i in 0..7 {}\n&/' \
-        'check.rt:30: 7' make test-conventions
+    changed "a number at a range's end" crates/plan/src/check.rt '1i fn planted() { for i in 0..7 {} }' \
+        'crates/plan/src/check.rt:1: 7' make test-conventions
     changed "a library that takes hold of the system" crates/words/src/lib.rt '$a fn print(rt: HostRuntime) {}' \
         'a library names the system itself: crates/words/src/lib.rt:' make test-conventions
     changed "an op without its name" crates/worker/src/lib.rt 's/op == ops::SKIP_ZERO/op == 2/' 'an op, a fate or an outcome without its name' make test-conventions
     changed "an op without its name, as a case" crates/plan/src/steps.rt 's/ops::SLEEP_RECORD => /2 => /' 'an op, a fate or an outcome without its name' make test-conventions
-    changed "a fate without its name" crates/decisions/src/fates.rt 's/^        fates\[w as usize\] = GOING/        fates[w as usize] = 0/' \
+    changed "a fate without its name" crates/decisions/src/fates.rt 's/fates\[w as usize\] = GOING/fates[w as usize] = 0/' \
         'an op, a fate or an outcome without its name' make test-conventions
     changed "a fate without its name, for a whole queue" crates/decisions/src/fates.rt 's/set_all(fates, GOING)/set_all(fates, 0)/' \
         'an op, a fate or an outcome without its name' make test-conventions
